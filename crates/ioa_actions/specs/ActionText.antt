@@ -1,4 +1,5 @@
--- Actions as text (profile): `send(m, i, j)`, `receive(m, i, j)`, and `a(v, w)@k` or `a@k` for all others.
+-- Actions as text (profile): `send(m, i, j)`, `receive(m, i, j)`, and `a(v, w)@k` or `a@k` for all others. Values that
+-- an effect chose stand behind: `a@k choose v, w`.
 use Rattle.std.specs.Prelude.{ℕ, ℤ, List, [], ◌∷◌, ◌++◌, map, codes}
 use Rattle.std.specs.Fmt.{signed_decimal}
 use Rattle.ioa_values.specs.Data.{Data}
@@ -29,3 +30,12 @@ action_text names (Send m i j) = message_text send_name (text names m) i j
 action_text names (Receive m i j) = message_text receive_name (text names m) i j
 action_text names (Local a) = node_action_text names a
 action_text names (Stimulus a) = node_action_text names a
+
+-- what an effect chose, behind its action; nothing if it chose nothing
+abbrev pub chosen_text : List (List ℕ) → List Data → List ℕ
+chosen_text names [] = []
+chosen_text names (v ∷ vs) = codes " choose " ++ with_commas (map (text names) (v ∷ vs))
+
+-- an action with what its effect chose
+abbrev pub entry_text : List (List ℕ) → Action → List Data → List ℕ
+entry_text names a vs = action_text names a ++ chosen_text names vs

@@ -21,6 +21,8 @@ pub enum StepFault {
     NotMine,
     /// `NoChannel` (42): a participant of the action is no component of the system.
     NoChannel,
+    /// `NoChoice` (43): a value that the effect chooses is missing, left over, not of its sort or not allowed.
+    NoChoice,
 }
 
 impl fmt::Display for StepFault {
@@ -37,6 +39,7 @@ impl fmt::Display for StepFault {
             StepFault::NotEnabled => f.write_str("40 NotEnabled"),
             StepFault::NotMine => f.write_str("41 NotMine"),
             StepFault::NoChannel => f.write_str("42 NoChannel"),
+            StepFault::NoChoice => f.write_str("43 NoChoice"),
         }
     }
 }

@@ -7,7 +7,7 @@ use Rattle.ioa_terms.specs.declared.name.Name.{Name}
 use Rattle.ioa_terms.specs.declared.name.Name.TheVariants.{Word}
 use Rattle.ioa_operators.specs.declared.shape.Shape.{Shape}
 use Rattle.ioa_terms.specs.declared.callee.Callee.{Callee}
-use Rattle.ioa_terms.specs.PlainTerm.{assign, branch, loop, fire, PlainStatements, no_statements, statement, statements_of, PlainArms, no_arms, arm}
+use Rattle.ioa_terms.specs.PlainTerm.{assign, branch, loop, fire, choosing, PlainStatements, no_statements, statement, statements_of, PlainArms, no_arms, arm}
 use Rattle.ioa_terms.specs.Resolved.{AreResolved, IsResolvedStatement}
 use Rattle.ioa_terms.specs.Sorted.{NameShapes}
 use Rattle.ioa_source.specs.PlainText.{const, named}
@@ -197,6 +197,7 @@ mutual
   statement_numbered site (branch arms rest) h = (arms_numbered site arms h.0, statements_numbered site rest h.1)
   statement_numbered site (loop t body) h = statements_numbered site body h.2
   statement_numbered site (fire f) h = rw h.numbered (ap Some h.same_name)
+  statement_numbered site (choosing c) h = tt
 
   statements_numbered : (site : PlainStatementSite) (ss : PlainStatements ℕ Callee Shape) → AreSorted site ss → AreNumbered site.rules ss
   statements_numbered site no_statements h = tt

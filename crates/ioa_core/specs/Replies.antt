@@ -41,6 +41,7 @@ is_memory_fault step.Memory = true
 is_memory_fault step.NotEnabled = false
 is_memory_fault step.NotMine = false
 is_memory_fault step.NoChannel = false
+is_memory_fault step.NoChoice = false
 
 -- whether a proposal is refused for want of memory
 abbrev pub is_memory : Reply → Bool

@@ -15,6 +15,7 @@ use Rattle.ioa_source.specs.contracts.declaration.Variable as Variable
 use Rattle.ioa_source.specs.contracts.declaration.Entry as Entry
 use Rattle.ioa_source.specs.contracts.declaration.Transition as Transition
 use Rattle.ioa_source.specs.contracts.declaration.Schedule as Schedule
+use Rattle.ioa_terms.specs.contracts.tree.Choice as Choice
 use Rattle.ioa_terms.specs.contracts.tree.Tree as Tree
 use Rattle.ioa_terms.specs.contracts.tree.Statement as Statement
 use Rattle.ioa_values.specs.contracts.names.Names as Names
@@ -63,11 +64,17 @@ tree_send = search (callee_send, owners, word_send, shape_send, crosses, tree_kn
 pub tree_sync : IsSync (Tree.the_field usize Callee.the_row Shape.the_row).row
 tree_sync = search (callee_sync, owners, word_sync, shape_sync, crosses, tree_knot.crosses, sendable) depth 60 fits 20000
 
+pub choice_send : IsSend (Choice.the_field usize Callee.the_row Shape.the_row).row
+choice_send = search (callee_send, owners, word_send, sort_send, shape_send, tree_send, crosses, sendable) depth 60 fits 20000
+
+pub choice_sync : IsSync (Choice.the_field usize Callee.the_row Shape.the_row).row
+choice_sync = search (callee_sync, owners, word_sync, sort_sync, shape_sync, tree_sync, crosses, sendable) depth 60 fits 20000
+
 pub statement_send : IsSend (Statement.the_field usize Callee.the_row Shape.the_row).row
-statement_send = search (callee_send, owners, word_send, shape_send, tree_send, crosses, statement_knot.crosses, sendable) depth 60 fits 20000
+statement_send = search (callee_send, choice_send, owners, word_send, shape_send, tree_send, crosses, statement_knot.crosses, sendable) depth 60 fits 20000
 
 pub statement_sync : IsSync (Statement.the_field usize Callee.the_row Shape.the_row).row
-statement_sync = search (callee_sync, owners, word_sync, shape_sync, tree_sync, crosses, statement_knot.crosses, sendable) depth 60 fits 20000
+statement_sync = search (callee_sync, choice_sync, owners, word_sync, shape_sync, tree_sync, crosses, statement_knot.crosses, sendable) depth 60 fits 20000
 
 pub declared_send : IsSend (Declared.the_field Shape.the_row).row
 declared_send = search (word_send, sort_send, shape_send, sendable) depth 60 fits 20000

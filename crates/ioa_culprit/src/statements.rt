@@ -58,6 +58,7 @@ fn pass_statement(
             pass_statements(walk, site, body)
         }
         Statement::Fire(firing) => pass_firing(walk, site, firing),
+        Statement::Choose(_) => Err(Halt::Lost),
     }
 }
 

@@ -9,13 +9,14 @@ use Rattle.ioa_tokens.specs.declared.mark.Mark.{Mark}
 use Rattle.ioa_tokens.specs.declared.mark.Mark.TheVariants as mark
 use Rattle.ioa_terms.specs.declared.tree.Kind.{Kind}
 use Rattle.ioa_terms.specs.declared.tree.Kind.TheVariants as kind
-use Rattle.ioa_terms.specs.PlainTerm.{variable, at_key, at_field, assign, branch, loop, fire}
+use Rattle.ioa_terms.specs.PlainTerm.{variable, at_key, at_field, assign, branch, loop, fire, choosing}
 use Rattle.ioa_terms.specs.PlainTerm.{no_statements, statement, statements_of, no_arms, arm}
 use Rattle.ioa_terms.specs.PlainSort.{PlainSort, booleans, integers, naturals, sequences, sets, maps, named_type}
 use Rattle.ioa_source.specs.PlainText.{const, named, enumeration, tuple_of, type_named, automaton}
 use Rattle.ioa_source.specs.PlainText.{node, channel, script}
 use Rattle.ioa_source.specs.Sides.{SourceTerm as Term, SourceTarget as Target, SourceStatement as Statement}
 use Rattle.ioa_source.specs.Sides.{SourceStatements as Statements, SourceArms as Arms, SourceFiring as Firing}
+use Rattle.ioa_source.specs.Sides.{SourceChoice as Choice}
 use Rattle.ioa_source.specs.Sides.{SourceDeclared as Declared}
 use Rattle.ioa_source.specs.Sides.{SourceParameter as Parameter, SourceEntry as Entry, SourceVariable as Variable}
 use Rattle.ioa_source.specs.Sides.{SourceTransition as Transition, SourceSchedule as Schedule, SourceForm as Form}
@@ -137,6 +138,19 @@ kind_spelling (Some k) = token.Mark (kind_mark k) ∷ []
 abbrev pub firing_spelling : Firing → List Token
 firing_spelling f = kind_spelling f.kind ++ call_spelling f.action f.arguments
 
+-- where Term yield Term
+abbrev pub condition_spelling : Choice → List Token
+condition_spelling c = token.Mark mark.Where ∷ (spelling c.condition ++ (token.Mark mark.Yield ∷ spelling c.yields))
+
+-- choose Word : Sort where Term yield Term
+abbrev pub chosen_spelling : Choice → List Token
+chosen_spelling c =
+    token.Mark mark.Choose ∷ token.Word c.name ∷ token.Mark mark.Colon ∷ (sort_spelling c.sort ++ condition_spelling c)
+
+-- Target := choose Word : Sort where Term yield Term
+abbrev pub choice_spelling : Choice → List Token
+choice_spelling c = target_spelling c.target ++ (token.Mark mark.Assign ∷ chosen_spelling c)
+
 -- [else Statements]: `xs` are the tokens of the statements
 abbrev pub else_spelling : Statements → List Token → List Token
 else_spelling no_statements xs = []
@@ -148,7 +162,7 @@ between_do_and_od xs = token.Mark mark.Do ∷ (xs ++ token.Mark mark.Od ∷ [])
 
 abbrev mutual
   -- Target := Term, if Term then Statements {elseif Term then Statements} [else Statements] fi, while Term do
-  -- Statements od, or fire [Kind] Call
+  -- Statements od, fire [Kind] Call, or a choice
   pub statement_spelling : Statement → List Token
   statement_spelling (assign p t) = target_spelling p ++ (token.Mark mark.Assign ∷ spelling t)
   statement_spelling (branch arms rest) =
@@ -157,6 +171,7 @@ abbrev mutual
   statement_spelling (loop t body) =
       token.Mark mark.While ∷ (spelling t ++ between_do_and_od (statements_spelling body))
   statement_spelling (fire f) = token.Mark mark.Fire ∷ firing_spelling f
+  statement_spelling (choosing c) = choice_spelling c
 
   -- Statement {; Statement}
   pub statements_spelling : Statements → List Token

@@ -23,7 +23,7 @@ use ioa_values::Word;
 use std::alloc::AllocError;
 
 /// Puts a sort.
-fn put_sort<'a>(out: &mut Pieces<'a>, sort: &'a Sort) -> Result<(), AllocError>
+pub(crate) fn put_sort<'a>(out: &mut Pieces<'a>, sort: &'a Sort) -> Result<(), AllocError>
     ensures { Puts (spec.sort_spelling (sort_of sort.now)) result out.old out.new }
 {
     match sort {

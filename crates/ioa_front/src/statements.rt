@@ -2,13 +2,14 @@
 
 ghost use Rattle.std.specs.Prelude.{◌≡◌, map};
 ghost use Rattle.ioa_terms.specs.PlainTerm.{arms_of, assign, fire};
-ghost use Rattle.ioa_terms.specs.View.{term_of, target_of, statement_of, arm_of, firing_of};
+ghost use Rattle.ioa_terms.specs.View.{term_of, target_of, statement_of, arm_of, choice_of, firing_of};
 ghost use Rattle.ioa_front.specs.Pieces.{Puts};
 ghost use Rattle.ioa_front.specs.Spelling as spec;
 
+use crate::declarations::put_sort;
 use crate::piece::Pieces;
 use crate::terms::{put_bracketed, put_term};
-use ioa_terms::{Arm, Firing, Kind, Statement, Target, Term};
+use ioa_terms::{Arm, Choice, Firing, Kind, Statement, Target, Term};
 use ioa_tokens::Mark;
 use ioa_values::Word;
 use std::alloc::AllocError;
@@ -88,6 +89,36 @@ fn put_assignment<'a>(
     put_term(out, term)
 }
 
+/// Puts a choice.
+fn put_choice<'a>(out: &mut Pieces<'a>, choice: &'a Choice<(), (), ()>) -> Result<(), AllocError>
+    ensures { Puts (spec.choice_spelling (choice_of choice.now)) result out.old out.new }
+{
+    put_target(out, &choice.target)?;
+    out.put_mark(Mark::Assign)?;
+    put_chosen(out, choice)
+}
+
+/// Puts what a choice assigns.
+fn put_chosen<'a>(out: &mut Pieces<'a>, choice: &'a Choice<(), (), ()>) -> Result<(), AllocError>
+    ensures { Puts (spec.chosen_spelling (choice_of choice.now)) result out.old out.new }
+{
+    out.put_mark(Mark::Choose)?;
+    out.put_word(&choice.name)?;
+    out.put_mark(Mark::Colon)?;
+    put_sort(out, &choice.sort)?;
+    put_condition(out, choice)
+}
+
+/// Puts the condition of a choice, and the term that yields its value.
+fn put_condition<'a>(out: &mut Pieces<'a>, choice: &'a Choice<(), (), ()>) -> Result<(), AllocError>
+    ensures { Puts (spec.condition_spelling (choice_of choice.now)) result out.old out.new }
+{
+    out.put_mark(Mark::Where)?;
+    put_term(out, &choice.condition)?;
+    out.put_mark(Mark::Yield)?;
+    put_term(out, &choice.yields)
+}
+
 /// Puts a statement.
 #[cycle(statements)]
 fn put_statement<'a>(
@@ -110,6 +141,7 @@ fn put_statement<'a>(
             put_block(out, body)
         }
         Statement::Fire(firing) => put_firing(out, firing),
+        Statement::Choose(choice) => put_choice(out, choice),
     }
 }
 

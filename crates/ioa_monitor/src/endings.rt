@@ -55,6 +55,7 @@ fn name_of(fault: NodeFault) -> &'static str
         NodeFault::Memory => "Memory",
         NodeFault::NotMine => "NotMine",
         NodeFault::NoChannel => "NoChannel",
+        NodeFault::NoChoice => "NoChoice",
         NodeFault::Differs => "Differs",
         NodeFault::Full => "Full",
         NodeFault::Unknown => "Unknown",

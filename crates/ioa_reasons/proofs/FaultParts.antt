@@ -2,7 +2,7 @@
 use Rattle.std.proofs.Common.{◌≡◌, List, Option, Some, None, Result, Ok, Err, refl}
 use Rattle.std.specs.Prelude.{IfOk, IfSome}
 use Rattle.ioa_values.specs.Data.{Data}
-use Rattle.ioa_terms.specs.Views.{IsNamed, all_values, environment_of, names_in_view}
+use Rattle.ioa_terms.specs.Views.{IsNamed, all_names, all_values, environment_of, names_in_view}
 use Rattle.ioa_terms.specs.declared.environment.View.{View}
 use Rattle.ioa_terms.proofs.Slots.{names_environment}
 use Rattle.ioa_actions.specs.ActionParts.{action_name}
@@ -20,7 +20,7 @@ use Rattle.ioa_reasons.specs.Stopping.{StopsAt}
 pub found_then : {A E : Type 0} (place : A → PlainStatementPlace) (g : A → PlainFault) (v : View) (vs : List Data) → IsNamed v vs → (found : Result (Option A) E) →
     IfOk found (λ o. IfSome o (λ f. StopsAt (place f) (environment_of v vs) (g f))) → IfOk found (λ o. IfSome o (λ f. StopsThen (names_in_view v) (place f) (g f)))
 found_then place g v vs named (Ok None) h = tt
-found_then place g v vs named (Ok (Some f)) h = (environment_of v vs, (names_environment v.names (all_values v vs) v.constants.now named, h))
+found_then place g v vs named (Ok (Some f)) h = (environment_of v vs, (names_environment (all_names v) (all_values v vs) v.constants.now named, h))
 found_then place g v vs named (Err e) h = tt
 
 -- what is found by the rule of an action's name is what the step of the action meets

@@ -203,6 +203,7 @@ pub(crate) fn condition_view<'a>(program: &'a Program, rule: &'a Rule, own: &'a 
 {
     let automaton = program.automaton();
     View {
+        front: &[],
         names: automaton.condition_names(rule),
         lent: LentValues {
             inboxes: None,
@@ -260,6 +261,7 @@ pub(crate) fn step_view<'a>(
 {
     let automaton = program.automaton();
     View {
+        front: &[],
         names: automaton.step_names(rule),
         lent: LentValues {
             inboxes: None,

@@ -81,7 +81,7 @@ fn stop_of<'a>(
             }
             stop_of_all(alloc, rest, view, values)
         }
-        Statement::While(_, _) | Statement::Fire(_) => Ok(Stop::Unknown),
+        Statement::While(_, _) | Statement::Fire(_) | Statement::Choose(_) => Ok(Stop::Unknown),
     }
 }
 

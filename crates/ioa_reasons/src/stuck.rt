@@ -96,7 +96,7 @@ fn stuck_at<'a>(
     fault_by(alloc, stop, view, own)
 }
 
-/// Where a statement of a block stops, before any statement that it has in it.
+/// Where a statement of a block stops, before any statement that it has in it. No block has a choice.
 fn stop_in_statement<'a>(
     alloc: Global,
     statement: &'a Statement<usize, Callee, Shape>,
@@ -115,6 +115,7 @@ fn stop_in_statement<'a>(
             stop_at(alloc, StatementPlace::Repeated(test), test, view, own)
         }
         Statement::Fire(firing) => stop_in_firing(alloc, firing, view, own),
+        Statement::Choose(_) => Ok(Stop::Unknown),
     }
 }
 

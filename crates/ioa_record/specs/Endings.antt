@@ -1,7 +1,7 @@
 -- The endings of nodes as text (profile).
 use Rattle.std.specs.Prelude.{ℕ, List, ◌++◌, codes}
 use Rattle.ioa_record.specs.declared.ending.NodeFault.{NodeFault}
-use Rattle.ioa_record.specs.declared.ending.NodeFault.TheVariants.{Undefined, Range, Memory, NotMine, NoChannel}
+use Rattle.ioa_record.specs.declared.ending.NodeFault.TheVariants.{Undefined, Range, Memory, NotMine, NoChannel, NoChoice}
 use Rattle.ioa_record.specs.declared.ending.NodeFault.TheVariants.{Differs, Full, Unknown, Older, NoThread}
 use Rattle.ioa_record.specs.declared.ending.Ending.{Ending}
 use Rattle.ioa_record.specs.declared.ending.Ending.TheVariants as ending
@@ -13,6 +13,7 @@ fault_name Range = codes "Range"
 fault_name Memory = codes "Memory"
 fault_name NotMine = codes "NotMine"
 fault_name NoChannel = codes "NoChannel"
+fault_name NoChoice = codes "NoChoice"
 fault_name Differs = codes "Differs"
 fault_name Full = codes "Full"
 fault_name Unknown = codes "Unknown"

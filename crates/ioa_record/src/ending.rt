@@ -16,6 +16,8 @@ pub enum NodeFault {
     NotMine,
     /// `NoChannel` (42): the action's channel is not declared.
     NoChannel,
+    /// `NoChoice` (43): a value that an effect chooses is missing, not of its sort or not allowed.
+    NoChoice,
     /// `Differs` (51): no configuration is one that may be the node's.
     Differs,
     /// `Full` (52): the schedule has as many actions as the step limit allows.
@@ -41,6 +43,7 @@ impl fmt::Display for NodeFault {
             NodeFault::Memory => f.write_str("Memory"),
             NodeFault::NotMine => f.write_str("NotMine"),
             NodeFault::NoChannel => f.write_str("NoChannel"),
+            NodeFault::NoChoice => f.write_str("NoChoice"),
             NodeFault::Differs => f.write_str("Differs"),
             NodeFault::Full => f.write_str("Full"),
             NodeFault::Unknown => f.write_str("Unknown"),

@@ -12,8 +12,8 @@ use Rattle.ioa_terms.specs.declared.name.Name.{Name}
 use Rattle.ioa_terms.specs.declared.name.Name.TheVariants.{Word}
 use Rattle.ioa_terms.specs.Bindings.{Bindings, constants_from, put, same_name}
 use Rattle.ioa_terms.specs.Meaning.{values}
-use Rattle.ioa_terms.specs.Performance.{after_one, assignment_value, fitting_value, target_name, target_shape, test_value}
-use Rattle.ioa_terms.specs.PlainTerm.{PlainTarget, PlainStatement, PlainStatements, PlainArms, assign, branch, loop, fire, no_statements, statement, no_arms, arm, statements_of, terms_of}
+use Rattle.ioa_terms.specs.Performance.{assigned, assignment_value, fitting_value, target_name, target_shape, test_value}
+use Rattle.ioa_terms.specs.PlainTerm.{PlainTarget, PlainStatement, PlainStatements, PlainArms, assign, branch, loop, fire, choosing, no_statements, statement, no_arms, arm, statements_of, terms_of}
 use Rattle.ioa_terms.specs.Sorted.{shape_named}
 use Rattle.ioa_source.specs.Sides.{CheckedVariable, SourceText}
 use Rattle.ioa_system.specs.InView.{block_bindings, inbox_words, parameter_names, variable_names}
@@ -135,7 +135,7 @@ module _ (p : Parts) where
     -- one statement
     step_kept : (s : PlainStatement ℕ Callee Shape) (rest : PlainStatements ℕ Callee Shape) (own : List Data) → AllZip FitsVariable p.automaton.schedule.variables own → AreSorted (statement s rest) → StepKeeps (after_step s rest (reads own))
     step_kept (assign q t) rest own fits h =
-        map_holds IsLeft (λ (k : PlainStatements ℕ Callee Shape × Bindings). IsKept k.0 k.1) (λ d. (rest, d)) (after_one (assign q t) (reads own))
+        map_holds IsLeft (λ (k : PlainStatements ℕ Callee Shape × Bindings). IsKept k.0 k.1) (λ d. (rest, d)) (assigned q t (reads own))
         (assignment_left q (assignment_value q t (reads own)) own fits (h state inboxes own g seen fits).0.0)
         (λ d k. record { left = k; sorted = λ st is later a i b. (h st is later a i b).1 })
     step_kept (branch arms others) rest own fits h =
@@ -148,6 +148,7 @@ module _ (p : Parts) where
         (record { left = as_it_was own fits; sorted = λ st is later a i b. joined_sorted p body (statement (loop t body) rest) (block_bindings p.automaton p.arguments st is later) (h st is later a i b).0.1 (h st is later a i b) })
         (record { left = as_it_was own fits; sorted = λ st is later a i b. (h st is later a i b).1 })
     step_kept (fire f) rest own fits h = tt
+    step_kept (choosing c) rest own fits h = tt
 
     abbrev TurnKeeps : Option TurnResult → Type 0
     TurnKeeps o = IfSome o (λ r. IsKept r.todo r.bindings)
@@ -169,12 +170,14 @@ module _ (p : Parts) where
     turn_kept zero (statement (assign q t) rest) own fits h = here_kept (statement (assign q t) rest) own fits h
     turn_kept zero (statement (branch arms others) rest) own fits h = here_kept (statement (branch arms others) rest) own fits h
     turn_kept zero (statement (loop t body) rest) own fits h = here_kept (statement (loop t body) rest) own fits h
+    turn_kept zero (statement (choosing c) rest) own fits h = here_kept (statement (choosing c) rest) own fits h
     turn_kept (suc n) (statement (assign q t) rest) own fits h =
         further_kept n (after_step (assign q t) rest (reads own)) (step_kept (assign q t) rest own fits h) (λ todo left k l. turn_kept n todo left k l)
     turn_kept (suc n) (statement (branch arms others) rest) own fits h =
         further_kept n (after_step (branch arms others) rest (reads own)) (step_kept (branch arms others) rest own fits h) (λ todo left k l. turn_kept n todo left k l)
     turn_kept (suc n) (statement (loop t body) rest) own fits h =
         further_kept n (after_step (loop t body) rest (reads own)) (step_kept (loop t body) rest own fits h) (λ todo left k l. turn_kept n todo left k l)
+    turn_kept (suc n) (statement (choosing c) rest) own fits h = tt
 
     turn_left : (r : TurnResult) → IsKept r.todo r.bindings → (left : List Data) × (r.bindings ≡ block_bindings p.automaton p.arguments state inboxes left) × IsBlockState p r.todo left
     turn_left r k = (k.left.own, k.left.same, record { values = k.left.fits; sorted = k.sorted })

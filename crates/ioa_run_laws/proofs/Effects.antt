@@ -1,17 +1,19 @@
 -- What statements leave has the shapes of the names in view.
-use Rattle.std.proofs.Common.{◌≡◌, ℕ, zero, suc, Bool, true, false, List, [], ◌∷◌, Option, Some, None, refl, take, if◌then◌else◌}
+use Rattle.std.proofs.Common.{◌≡◌, ℕ, zero, suc, Bool, true, false, List, [], ◌∷◌, Option, Some, None, IfOk, Result, Ok, Err, refl, take, if◌then◌else◌}
 use Rattle.std.specs.List.{AllZip}
 use Rattle.std.specs.Option.{IfSome, option_and_then, option_map}
 use Rattle.ioa_values.specs.Data.{Data}
 use Rattle.ioa_operators.specs.Shapes.{PlainShape, has_shape}
 use Rattle.ioa_operators.specs.declared.shape.Shape.{Shape}
-use Rattle.ioa_operators.proofs.Holding.{map_holds, and_then_holds, and_then_holds_any, test_holds}
+use Rattle.ioa_operators.proofs.Holding.{map_holds, and_then_holds_any, test_holds}
 use Rattle.ioa_terms.specs.declared.callee.Callee.{Callee}
 use Rattle.ioa_terms.specs.declared.name.Name.{Name}
 use Rattle.ioa_terms.specs.SameNames.{same_name_is}
 use Rattle.ioa_terms.specs.Bindings.{Bindings, same_name, lookup, put}
-use Rattle.ioa_terms.specs.PlainTerm.{PlainTarget, variable, at_key, at_field, PlainStatement, PlainStatements, PlainArms, assign, branch, loop, fire, no_statements, statement, no_arms, arm, statements_of}
-use Rattle.ioa_terms.specs.Performance.{target_name, target_shape, assignment_value, fitting_value, test_value, by_test, after_one, after_choice, after_all, after}
+use Rattle.ioa_terms.specs.PlainTerm.{PlainTarget, variable, at_key, at_field, PlainStatement, PlainStatements, PlainArms, assign, branch, loop, fire, choosing, no_statements, statement, no_arms, arm, statements_of}
+use Rattle.ioa_terms.specs.Choices.{Source, Left, Lack, no_value}
+use Rattle.ioa_terms.specs.Performance.{target_name, target_shape, assignment_value, assigned, fitting_value, test_value, by_test, after_assign, after_one, after_choice, after_all, after}
+use Rattle.ioa_terms.proofs.Statements.{ok_then}
 use Rattle.ioa_terms.specs.Sorted.{NameShapes, shape_named, IsShaped}
 use Rattle.ioa_terms.proofs.Assigned.{assigned_value}
 use Rattle.ioa_source.specs.Sides.{SourceStatement, CheckedStatement}
@@ -75,24 +77,33 @@ module _ (variables names : NameShapes) (declared : (x : Name) (s : PlainShape) 
       Fits : Data → Type 0
       Fits v = has_shape (target_shape p) v ≡ true
 
+  -- what is left has the shapes of the names
+  abbrev IsLeftShaped : Left → Type 0
+  IsLeftShaped m = IsShaped names m.bindings
+
+  left_shaped : (o : Option Bindings) (c : Source) → IfSome o (IsShaped names) → IfOk (after_assign o c) IsLeftShaped
+  left_shaped None c h = tt
+  left_shaped (Some e) c h = h
+
   mutual
-    pub statement_shaped : (s : PlainStatement ℕ Callee Shape) (e : Bindings) → IsSorted (effect_site variables names) s → IsShaped names e → IfSome (after_one s e) (IsShaped names)
-    statement_shaped (assign p t) e h g = assigned_shaped p h.0 e (assignment_value p t e) h.1 g
-    statement_shaped (branch arms rest) e h g = choice_shaped arms (after_all rest e) e h.0 g (statements_shaped rest e h.1 g)
-    statement_shaped (loop t body) e h g = tt
-    statement_shaped (fire f) e h g = tt
+    pub statement_shaped : (s : PlainStatement ℕ Callee Shape) (l : Left) → IsSorted (effect_site variables names) s → IsShaped names l.bindings → IfOk (after_one s l) IsLeftShaped
+    statement_shaped (assign p t) l h g = left_shaped (assigned p t l.bindings) l.source (assigned_shaped p h.0 l.bindings (assignment_value p t l.bindings) h.1 g)
+    statement_shaped (branch arms rest) l h g = choice_shaped arms (after_all rest l) l h.0 g (statements_shaped rest l h.1 g)
+    statement_shaped (loop t body) l h g = tt
+    statement_shaped (fire f) l h g = tt
+    statement_shaped (choosing c) l h g = absurd h
 
-    choice_shaped : (arms : PlainArms ℕ Callee Shape) (rest : Option Bindings) (e : Bindings) → AreArmsSorted (effect_site variables names) arms → IsShaped names e → IfSome rest (IsShaped names) → IfSome (after_choice arms rest e) (IsShaped names)
-    choice_shaped no_arms rest e h g k = k
-    choice_shaped (arm t body more) rest e h g k =
-        after_test (λ (o : Option Bindings). IfSome o (IsShaped names)) (test_value t e) None (after_all body e) (after_choice more rest e)
-        tt (statements_shaped body e h.1 g) (choice_shaped more rest e h.2 g k)
+    choice_shaped : (arms : PlainArms ℕ Callee Shape) (rest : Result Left Lack) (l : Left) → AreArmsSorted (effect_site variables names) arms → IsShaped names l.bindings → IfOk rest IsLeftShaped → IfOk (after_choice arms rest l) IsLeftShaped
+    choice_shaped no_arms rest l h g k = k
+    choice_shaped (arm t body more) rest l h g k =
+        after_test (λ (r : Result Left Lack). IfOk r IsLeftShaped) (test_value t l.bindings) (Err no_value) (after_all body l) (after_choice more rest l)
+        tt (statements_shaped body l h.1 g) (choice_shaped more rest l h.2 g k)
 
-    pub statements_shaped : (ss : PlainStatements ℕ Callee Shape) (e : Bindings) → AreSorted (effect_site variables names) ss → IsShaped names e → IfSome (after_all ss e) (IsShaped names)
-    statements_shaped no_statements e h g = g
-    statements_shaped (statement s more) e h g =
-        and_then_holds (IsShaped names) (IsShaped names) (after_all more) (after_one s e) (statement_shaped s e h.0 g) (λ f k. statements_shaped more f h.1 k)
+    pub statements_shaped : (ss : PlainStatements ℕ Callee Shape) (l : Left) → AreSorted (effect_site variables names) ss → IsShaped names l.bindings → IfOk (after_all ss l) IsLeftShaped
+    statements_shaped no_statements l h g = g
+    statements_shaped (statement s more) l h g =
+        ok_then IsLeftShaped IsLeftShaped (after_one s l) (after_all more) (statement_shaped s l h.0 g) (λ m k. statements_shaped more m h.1 k)
 
   -- what an effect leaves
-  pub effect_shaped : (us : List SourceStatement) (ss : List CheckedStatement) (e left : Bindings) → AllZip (IsStatementOf (effect_site variables names)) us ss → IsShaped names e → after ss e ≡ Some left → IsShaped names left
-  effect_shaped us ss e left h g k = rw k at (statements_shaped (statements_of ss) e (all_sorted (effect_site variables names) us ss h) g)
+  pub effect_shaped : (us : List SourceStatement) (ss : List CheckedStatement) (l m : Left) → AllZip (IsStatementOf (effect_site variables names)) us ss → IsShaped names l.bindings → after ss l ≡ Ok m → IsShaped names m.bindings
+  effect_shaped us ss l m h g k = rw k at (statements_shaped (statements_of ss) l (all_sorted (effect_site variables names) us ss h) g)

@@ -1,15 +1,15 @@
 -- The terms of an accepted system have their shapes throughout.
-use Rattle.std.proofs.Common.{◌≡◌, ℤ, ℕ, true, false, List, [], ◌∷◌, ◌++◌, Option, Some, None, refl, ap, subst, ◌∙◌, map, take, length, slice_get}
+use Rattle.std.proofs.Common.{◌≡◌, ℤ, ℕ, true, false, List, [], ◌∷◌, ◌++◌, Option, Some, None, IfOk, Result, Ok, Err, refl, ap, subst, ◌∙◌, map, take, length, slice_get}
 use Rattle.std.specs.List.{AllByRecursion, AllZip, Contains}
-use Rattle.std.specs.Option.{IfSome}
 use Rattle.ioa_operators.specs.Shapes.{PlainShape, truths}
 use Rattle.ioa_operators.specs.declared.shape.Shape.{Shape}
 use Rattle.ioa_terms.specs.declared.callee.Callee.{Callee}
 use Rattle.ioa_terms.specs.declared.name.Name.{Name}
 use Rattle.ioa_terms.specs.declared.name.Name.TheVariants.{Word}
 use Rattle.ioa_terms.specs.Bindings.{Bindings, names_of}
+use Rattle.ioa_terms.specs.Choices.{Left, left, given, Lack}
 use Rattle.ioa_terms.specs.Performance.{after_one, target_name, target_shape}
-use Rattle.ioa_terms.specs.PlainTerm.{PlainTerm, PlainTarget, variable, at_key, at_field, PlainStatement, PlainStatements, PlainArms, assign, branch, loop, fire, no_statements, statement, no_arms, arm, statements_of}
+use Rattle.ioa_terms.specs.PlainTerm.{PlainTerm, PlainTarget, variable, at_key, at_field, PlainStatement, PlainStatements, PlainArms, assign, branch, loop, fire, choosing, no_statements, statement, no_arms, arm, statements_of}
 use Rattle.ioa_terms.specs.Sorted.{NameShapes, HasShape, shape_named, shape_in_terms, IsShaped}
 use Rattle.ioa_terms.proofs.Statements.{after_names}
 use Rattle.ioa_actions.specs.ActionParts.{action_arguments}
@@ -67,28 +67,29 @@ module _ (variables names : NameShapes) (declared : (x : Name) (s : PlainShape) 
   }
 
 -- what holds of all that a statement may leave: the names stay, with values of their shapes
-further : (names : NameShapes) (e : Bindings) (Q : Bindings → Type 0) (o : Option Bindings) → names_of e ≡ map (λ n. n.0) names → ((f : Bindings) → o ≡ Some f → names_of f ≡ names_of e) → IfSome o (IsShaped names) → ((f : Bindings) → HasValuesOf names f → Q f) → IfSome o Q
-further names e Q None same kept h g = tt
-further names e Q (Some f) same kept h g = g f (record { named = kept f refl ∙ same; shaped = h })
+further : (names : NameShapes) (l : Left) (Q : Left → Type 0) (r : Result Left Lack) → names_of l.bindings ≡ map (λ n. n.0) names → ((m : Left) → r ≡ Ok m → names_of m.bindings ≡ names_of l.bindings) → IfOk r (λ m. IsShaped names m.bindings) → ((m : Left) → HasValuesOf names m.bindings → Q m) → IfOk r Q
+further names l Q (Err f) same kept h g = tt
+further names l Q (Ok m) same kept h g = g m (record { named = kept m refl ∙ same; shaped = h })
 
 -- statements
 module _ (variables names : NameShapes) (declared : (x : Name) (s : PlainShape) → shape_named x variables ≡ Some s → shape_named x names ≡ Some s) where
   mutual
-    statement_sorted : (s : PlainStatement ℕ Callee Shape) (e : Bindings) → IsSorted (effect_site variables names) s → HasValuesOf names e → IsWellSorted s e
-    statement_sorted (assign p t) e h g = assignment_sorted variables names declared e g p t h.0 h.1 h.2
-    statement_sorted (branch arms rest) e h g = (arms_sorted arms e h.0 g, statements_sorted rest e h.1 g)
-    statement_sorted (loop t body) e h g = let f : false ≡ true = h.0 in absurd (cc)
-    statement_sorted (fire f) e h g = let none : slice_get [] f.rule ≡ Some h.rule = h.numbered in absurd (cc)
+    statement_sorted : (s : PlainStatement ℕ Callee Shape) (l : Left) → IsSorted (effect_site variables names) s → HasValuesOf names l.bindings → IsWellSorted s l
+    statement_sorted (assign p t) l h g = assignment_sorted variables names declared l.bindings g p t h.0 h.1 h.2
+    statement_sorted (branch arms rest) l h g = (arms_sorted arms l h.0 g, statements_sorted rest l h.1 g)
+    statement_sorted (loop t body) l h g = let f : false ≡ true = h.0 in absurd (cc)
+    statement_sorted (fire f) l h g = let none : slice_get [] f.rule ≡ Some h.rule = h.numbered in absurd (cc)
+    statement_sorted (choosing c) l h g = absurd h
 
-    arms_sorted : (arms : PlainArms ℕ Callee Shape) (e : Bindings) → AreArmsSorted (effect_site variables names) arms → HasValuesOf names e → AreArmsWellSorted arms e
-    arms_sorted no_arms e h g = tt
-    arms_sorted (arm t body more) e h g = (throughout names e g t truths h.0, statements_sorted body e h.1 g, arms_sorted more e h.2 g)
+    arms_sorted : (arms : PlainArms ℕ Callee Shape) (l : Left) → AreArmsSorted (effect_site variables names) arms → HasValuesOf names l.bindings → AreArmsWellSorted arms l
+    arms_sorted no_arms l h g = tt
+    arms_sorted (arm t body more) l h g = (throughout names l.bindings g t truths h.0, statements_sorted body l h.1 g, arms_sorted more l h.2 g)
 
-    statements_sorted : (ss : PlainStatements ℕ Callee Shape) (e : Bindings) → AreSorted (effect_site variables names) ss → HasValuesOf names e → AreWellSorted ss e
-    statements_sorted no_statements e h g = tt
-    statements_sorted (statement s more) e h g = (
-      statement_sorted s e h.0 g,
-      further names e (AreWellSorted more) (after_one s e) g.named (λ f k. after_names (s ∷ []) e f (rw k refl)) (statement_shaped variables names declared s e h.0 g.shaped) (λ f k. statements_sorted more f h.1 k),
+    statements_sorted : (ss : PlainStatements ℕ Callee Shape) (l : Left) → AreSorted (effect_site variables names) ss → HasValuesOf names l.bindings → AreWellSorted ss l
+    statements_sorted no_statements l h g = tt
+    statements_sorted (statement s more) l h g = (
+      statement_sorted s l h.0 g,
+      further names l (AreWellSorted more) (after_one s l) g.named (λ m k. after_names (s ∷ []) l m (rw k refl)) (statement_shaped variables names declared s l h.0 g.shaped) (λ m k. statements_sorted more m h.1 k),
     )
 
 -- the arguments of a firing
@@ -122,6 +123,7 @@ module _ (own : List CheckedVariable) (site : PlainStatementSite) (first : site.
     one_block_sorted (branch arms rest) h = (block_arms_sorted arms h.0, block_sorted rest h.1)
     one_block_sorted (loop t body) h = (throughout site.names e g t truths h.1, block_sorted body h.2)
     one_block_sorted (fire f) h = firing_sorted f h
+    one_block_sorted (choosing c) h = absurd h
 
     block_arms_sorted : (arms : PlainArms ℕ Callee Shape) → AreArmsSorted site arms → AreBlockArmsWellSorted own site.rules arms e
     block_arms_sorted no_arms h = tt
@@ -171,7 +173,7 @@ module _ (x : SourceText) (s : SystemParts) (h : IsSystemOf x s) (c : NodeState)
         names = λ site. rule_names x s h c shaped site r a sorts;
         condition = guard_truth (names_at entry_condition h.types.constants b.parameters b.variables r.entry.parameters) (rule_bindings entry_condition r a c) (rule_valued x s h c shaped entry_condition r a sorts) made.0.condition r.entry.condition made.1.condition;
         guard = guard_truth names (rule_bindings guard_or_effect r a c) g made.1.written.pre r.transition.pre made.1.transition.pre;
-        effect = statements_sorted variables names declared (statements_of r.transition.effect) (rule_bindings guard_or_effect r a c) (all_sorted (effect_site variables names) made.1.written.effect r.transition.effect made.1.transition.effect) g;
+        effect = statements_sorted variables names declared (statements_of r.transition.effect) (left (rule_bindings guard_or_effect r a c) (given [])) (all_sorted (effect_site variables names) made.1.written.effect r.transition.effect made.1.transition.effect) g;
       }
 
   pub node_sorted : IsNodeWellSorted c

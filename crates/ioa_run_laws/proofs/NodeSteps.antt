@@ -5,6 +5,7 @@ use Rattle.std.proofs.lemmas.Slice.Eq.{bytes_eq-Decides}
 use Rattle.ioa_values.specs.Data.{Data}
 use Rattle.ioa_operators.specs.Shapes.{PlainShape}
 use Rattle.ioa_terms.specs.declared.name.Name.TheVariants.{Word}
+use Rattle.ioa_terms.specs.Choices.{left, given}
 use Rattle.ioa_terms.specs.Bindings.{Bindings, same_name, lookup, names_of}
 use Rattle.ioa_terms.specs.Sorted.{NameShapes, shape_named}
 use Rattle.ioa_terms.specs.Sorted.{IsShaped}
@@ -59,15 +60,15 @@ variables_named constants a own d =
     whole = append_assoc (variable_shapes a.variables) (parameter_shapes a.parameters ++ own_shapes own) constants
 
 -- what is left to the state variables has their shapes
-left_fit : (names : NameShapes) (left : Bindings) → IsShaped names left → (vs : List CheckedVariable) (ds : List Data) → AllByRecursion (IsNamed names) vs →
-    map (λ x. lookup (Word x) left) (variable_names vs) ≡ map Some ds → AllZip FitsVariable vs ds
-left_fit names left g [] [] h k = tt
-left_fit names left g [] (d ∷ ds) h k = absurd (cc)
-left_fit names left g (v ∷ vs) [] h k = absurd (cc)
-left_fit names left g (v ∷ vs) (d ∷ ds) h k =
-    let first : lookup (Word v.declared.name) left ≡ Some d = cc in
-    let others : map (λ x. lookup (Word x) left) (variable_names vs) ≡ map Some ds = cc in
-    (g (Word v.declared.name) v.declared.shape d h.0 first, left_fit names left g vs ds h.1 others)
+left_fit : (names : NameShapes) (reached : Bindings) → IsShaped names reached → (vs : List CheckedVariable) (ds : List Data) → AllByRecursion (IsNamed names) vs →
+    map (λ x. lookup (Word x) reached) (variable_names vs) ≡ map Some ds → AllZip FitsVariable vs ds
+left_fit names reached g [] [] h k = tt
+left_fit names reached g [] (d ∷ ds) h k = absurd (cc)
+left_fit names reached g (v ∷ vs) [] h k = absurd (cc)
+left_fit names reached g (v ∷ vs) (d ∷ ds) h k =
+    let first : lookup (Word v.declared.name) reached ≡ Some d = cc in
+    let others : map (λ x. lookup (Word x) reached) (variable_names vs) ≡ map Some ds = cc in
+    (g (Word v.declared.name) v.declared.shape d h.0 first, left_fit names reached g vs ds h.1 others)
 
 -- what the terms of a rule read at a site, if the arguments of an action are of their sorts
 pub rule_valued : (x : SourceText) (s : SystemParts) (h : IsSystemOf x s) (c : NodeState) → IsShapedNode s c → (site : Site) (r : PlainRule) (a : Action) → AllZip IsOfSort r.entry.parameters (action_arguments a) →
@@ -98,7 +99,7 @@ step_shaped x s a c d h shaped step =
     subst (λ (p : Parts). IsShapedNode s (node_state p d.variables)) (sym step.program) (record {
       program = shaped.program;
       arguments = shaped.arguments;
-      variables = left_fit names step.left left_shaped b.variables d.variables (variables_named h.types.constants b r.entry.parameters made.1.step_names) step.variables;
+      variables = left_fit names step.reached left_shaped b.variables d.variables (variables_named h.types.constants b r.entry.parameters made.1.step_names) step.variables;
     })
   where
     b : AutomatonParts
@@ -113,7 +114,7 @@ step_shaped x s a c d h shaped step =
     made : (e : SourceEntry) × IsRuleOf h.types b.parameters b.variables (is_accepted x s h c.program shaped.program).source.transitions e r
     made = is_rule h.types c.program (is_accepted x s h c.program shaped.program) r step.mine.present
 
-    left_shaped : IsShaped names step.left
+    left_shaped : IsShaped names step.reached
     left_shaped = effect_shaped (take (length b.variables) names) names (λ y t found. found_in_front y (length b.variables) names t found)
-        made.1.written.effect r.transition.effect (rule_bindings guard_or_effect r a c) step.left made.1.transition.effect
+        made.1.written.effect r.transition.effect (left (rule_bindings guard_or_effect r a c) (given [])) (left step.reached (given [])) made.1.transition.effect
         (rule_valued x s h c shaped guard_or_effect r a step.sorts).shaped step.effect

@@ -1,5 +1,5 @@
 -- A node takes each message that is under way to it.
-use Rattle.std.proofs.Common.{◌≡◌, ℕ, ℤ, pos, true, List, [], ◌∷◌, Option, Some, None, inl, inr, refl, sym, ap, subst, ◌∙◌, slice_get, map, take, length, le-leb, arith}
+use Rattle.std.proofs.Common.{◌≡◌, ℕ, ℤ, pos, true, List, [], ◌∷◌, Option, Some, None, Ok, inl, inr, refl, sym, ap, subst, ◌∙◌, slice_get, map, take, length, le-leb, arith}
 use Rattle.std.specs.List.{AllZip, Contains}
 use Rattle.std.specs.Ordering.{int_eq}
 use Rattle.std.proofs.lemmas.Bool.Decides.{Decides-int_eq}
@@ -10,6 +10,7 @@ use Rattle.ioa_terms.specs.Bindings.{Bindings, same_word}
 use Rattle.ioa_terms.specs.Meaning.{value, numbers_met}
 use Rattle.ioa_terms.specs.Sorted.{NameShapes}
 use Rattle.ioa_terms.specs.declared.tree.Kind.TheVariants.{Input}
+use Rattle.ioa_terms.specs.Choices.{left, given}
 use Rattle.ioa_terms.specs.Performance.{after}
 use Rattle.ioa_actions.specs.ActionParts.{receive_name, action_arguments}
 use Rattle.ioa_actions.specs.declared.action.Action.{Action}
@@ -206,18 +207,18 @@ as_many (x ∷ xs) [] h = absurd h
 as_many (x ∷ xs) (v ∷ vs) h = let rest = as_many xs vs h.1 in omega (arith, rest)
 
 step_by : (x : SourceText) (s : SystemParts) → IsSystemOf x s → (n : NodeState) → IsShapedNode s n → (r : PlainRule) (a : Action) → HasRule n.program a r → AllZip IsOfSort r.entry.parameters (action_arguments a) → r.entry.condition ≡ None → r.transition.pre ≡ None →
-    (left : Bindings) → after r.transition.effect (rule_bindings guard_or_effect r a n) ≡ Some left → (d : NodeState) × IsNodeStep a n d
-step_by x s h n shaped r a mine sorts condition guard left effect = (
-  node_state n.program (take (length n.variables) (map (λ b. b.1) left)),
+    (reached : Bindings) → after r.transition.effect (left (rule_bindings guard_or_effect r a n) (given [])) ≡ Ok (left reached (given [])) → (d : NodeState) × IsNodeStep a n d
+step_by x s h n shaped r a mine sorts condition guard reached effect = (
+  node_state n.program (take (length n.variables) (map (λ b. b.1) reached)),
   record {
     rule = r;
     mine = mine;
     sorts = sorts;
     condition = none_holds r.entry.condition (rule_bindings entry_condition r a n) condition;
     guard = none_holds r.transition.pre (rule_bindings guard_or_effect r a n) guard;
-    left = left;
+    reached = reached;
     effect = effect;
-    variables = names_left n r a left state effect;
+    variables = names_left n r a (left reached (given [])) state effect;
     program = refl;
   },
 )

@@ -1,8 +1,9 @@
 -- When a node takes a message that is under way to it, whatever its state (Lynch 8.1: inputs are enabled).
-use Rattle.std.specs.Prelude.{◌≡◌, ℤ, List, Some, None}
+use Rattle.std.specs.Prelude.{◌≡◌, ℤ, List, [], Some, None, Ok}
 use Rattle.std.specs.List.{AllZip, Contains}
 use Rattle.ioa_values.specs.Data.{Data}
 use Rattle.ioa_terms.specs.Bindings.{Bindings}
+use Rattle.ioa_terms.specs.Choices.{left, given}
 use Rattle.ioa_terms.specs.Performance.{after}
 use Rattle.ioa_actions.specs.ActionParts.{action_arguments}
 use Rattle.ioa_actions.specs.declared.action.Action.TheVariants.{Receive}
@@ -25,9 +26,9 @@ pub record IsAwaited (c : NodeState) (m : Data) (i j : ℤ) : Type 0 where
   pub sorts : AllZip IsOfSort rule.entry.parameters (action_arguments (Receive m i j))
   pub condition : rule.entry.condition ≡ None
   pub guard : rule.transition.pre ≡ None
-  pub enabled : (left : Bindings)
-      → after rule.transition.effect (rule_bindings guard_or_effect rule (Receive m i j) c) ≡ Some left
-      → (d : NodeState) × IsNodeStep (Receive m i j) c d
+  pub enabled : (reached : Bindings)
+      → after rule.transition.effect (left (rule_bindings guard_or_effect rule (Receive m i j) c) (given []))
+      ≡ Ok (left reached (given [])) → (d : NodeState) × IsNodeStep (Receive m i j) c d
 
 -- each message in the queue of a channel is awaited by the node to which the channel leads
 abbrev pub AreMessagesAwaited : List Conf → Type 0

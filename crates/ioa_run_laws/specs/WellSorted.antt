@@ -1,17 +1,18 @@
 -- What the terms of a node may give, and what their parts may (profile): no value of a wrong sort. A negative number
 -- where the sort says Nat is no wrong sort: an assignment of it, or an argument, is no step.
-use Rattle.std.specs.Prelude.{◌≡◌, ℕ, List, [], Option, Some, None, slice_get}
+use Rattle.std.specs.Prelude.{◌≡◌, ℕ, List, [], Option, Some, None, IfOk, slice_get}
 use Rattle.std.specs.List.{AllByRecursion, AllZip, Contains}
-use Rattle.std.specs.Option.{IfSome, option_map}
+use Rattle.std.specs.Option.{option_map}
 use Rattle.ioa_values.specs.Data.{Data}
 use Rattle.ioa_operators.specs.Shapes.{PlainShape, truths, maps, wide_shape}
 use Rattle.ioa_operators.specs.declared.shape.Shape.{Shape}
 use Rattle.ioa_terms.specs.declared.callee.Callee.{Callee}
 use Rattle.ioa_terms.specs.Bindings.{Bindings, names_of}
+use Rattle.ioa_terms.specs.Choices.{Left, left, given}
 use Rattle.ioa_terms.specs.Performance.{after_one, assignment_value, target_name, target_shape}
 use Rattle.ioa_terms.specs.PlainTerm.{PlainTerm, PlainTarget, variable, at_key, at_field}
 use Rattle.ioa_terms.specs.PlainTerm.{PlainStatement, PlainStatements, PlainArms}
-use Rattle.ioa_terms.specs.PlainTerm.{assign, branch, loop, fire}
+use Rattle.ioa_terms.specs.PlainTerm.{assign, branch, loop, fire, choosing}
 use Rattle.ioa_terms.specs.PlainTerm.{no_statements, statement, no_arms, arm, statements_of}
 use Rattle.ioa_terms.specs.Sorted.{field_shape, shape_in_terms, shape_named}
 use Rattle.ioa_actions.specs.ActionParts.{action_arguments}
@@ -56,23 +57,25 @@ pub record IsAssignmentWellSorted (e : Bindings) (p : PlainTarget ℕ Callee Sha
   pub given : IsOfShape (wide_shape (target_shape p)) (assignment_value p t e)
 
 abbrev mutual
-  -- what a statement assigns, the key included, has its shape throughout; no effect has a `while` or a `fire`
-  pub IsWellSorted : PlainStatement ℕ Callee Shape → Bindings → Type 0
-  IsWellSorted (assign p t) e = IsAssignmentWellSorted e p t
-  IsWellSorted (branch arms rest) e = AreArmsWellSorted arms e × AreWellSorted rest e
-  IsWellSorted (loop t body) e = ⊥
-  IsWellSorted (fire f) e = ⊥
+  -- what a statement assigns, the key included, has its shape throughout; no effect has a `while` or a `fire`, and no
+  -- checked text has a choice
+  pub IsWellSorted : PlainStatement ℕ Callee Shape → Left → Type 0
+  IsWellSorted (assign p t) l = IsAssignmentWellSorted l.bindings p t
+  IsWellSorted (branch arms rest) l = AreArmsWellSorted arms l × AreWellSorted rest l
+  IsWellSorted (loop t body) l = ⊥
+  IsWellSorted (fire f) l = ⊥
+  IsWellSorted (choosing c) l = ⊥
 
   -- what an arm tests is a truth value throughout, and its statements are well sorted
-  pub AreArmsWellSorted : PlainArms ℕ Callee Shape → Bindings → Type 0
-  AreArmsWellSorted no_arms e = Unit {0}
-  AreArmsWellSorted (arm t body more) e =
-      HasShapeThroughout e t truths × AreWellSorted body e × AreArmsWellSorted more e
+  pub AreArmsWellSorted : PlainArms ℕ Callee Shape → Left → Type 0
+  AreArmsWellSorted no_arms l = Unit {0}
+  AreArmsWellSorted (arm t body more) l =
+      HasShapeThroughout l.bindings t truths × AreWellSorted body l × AreArmsWellSorted more l
 
   -- statements in order, each in what the one before left
-  pub AreWellSorted : PlainStatements ℕ Callee Shape → Bindings → Type 0
-  AreWellSorted no_statements e = Unit {0}
-  AreWellSorted (statement s more) e = IsWellSorted s e × IfSome (after_one s e) (AreWellSorted more)
+  pub AreWellSorted : PlainStatements ℕ Callee Shape → Left → Type 0
+  AreWellSorted no_statements l = Unit {0}
+  AreWellSorted (statement s more) l = IsWellSorted s l × IfOk (after_one s l) (AreWellSorted more)
 
 -- what a rule evaluates when a node takes an action: it reads the names in view at each site, each with its value; the
 -- entry's condition, the guard and the effect are well sorted
@@ -81,7 +84,8 @@ pub record IsRuleWellSorted (c : NodeState) (a : Action) (r : PlainRule) : Type 
       ≡ names_at site (declared_names c.program.automaton) (own_names r.entry.parameters)
   pub condition : IsTruthValued r.entry.condition (rule_bindings entry_condition r a c)
   pub guard : IsTruthValued r.transition.pre (rule_bindings guard_or_effect r a c)
-  pub effect : AreWellSorted (statements_of r.transition.effect) (rule_bindings guard_or_effect r a c)
+  pub effect : AreWellSorted (statements_of r.transition.effect)
+      (left (rule_bindings guard_or_effect r a c) (given []))
 
 -- what the schedule block of a node reads, if it sees these inboxes, and its own variables have these values
 abbrev pub block_read : NodeState → (inboxes own : List Data) → Bindings
@@ -102,13 +106,14 @@ IsOwnTarget own p = shape_named (target_name p) (variable_shapes own) ≡ Some (
 abbrev mutual
   -- a statement of a schedule block of these variables, whose firings are of these rules, and each statement within it:
   -- an assignment is to one of the variables, what it assigns, the key included, has its shape throughout, and what is
-  -- tested is a truth value throughout
+  -- tested is a truth value throughout; no block has a choice
   pub IsBlockWellSorted : List CheckedVariable → List PlainRule → PlainStatement ℕ Callee Shape → Bindings → Type 0
   IsBlockWellSorted own rules (assign p t) e = IsOwnTarget own p × IsAssignmentWellSorted e p t
   IsBlockWellSorted own rules (branch arms rest) e =
       AreBlockArmsWellSorted own rules arms e × AreBlockWellSorted own rules rest e
   IsBlockWellSorted own rules (loop t body) e = HasShapeThroughout e t truths × AreBlockWellSorted own rules body e
   IsBlockWellSorted own rules (fire f) e = IsFiringWellSorted rules f e
+  IsBlockWellSorted own rules (choosing c) e = ⊥
 
   -- the same of arms
   pub AreBlockArmsWellSorted : List CheckedVariable → List PlainRule → PlainArms ℕ Callee Shape → Bindings → Type 0

@@ -110,6 +110,7 @@ refused_by s text k step.Memory stops = tt
 refused_by s text k step.NotEnabled stops = (step.NotEnabled, refl, stops)
 refused_by s text k step.NotMine stops = (step.NotMine, refl, stops)
 refused_by s text k step.NoChannel stops = (step.NoChannel, refl, stops)
+refused_by s text k step.NoChoice stops = (step.NoChoice, refl, stops)
 
 -- lines are accepted if they spell an execution, and only then
 pub accepted : (s : SystemParts) (text : List ℕ) → schedule_answer s text ≡ Ok tt → IsExecutionSpelled s text

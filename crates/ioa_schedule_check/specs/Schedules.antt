@@ -33,9 +33,10 @@ is_no_step step.Memory = false
 is_no_step step.NotEnabled = true
 is_no_step step.NotMine = true
 is_no_step step.NoChannel = true
+is_no_step step.NoChoice = true
 
--- why the action at a place is no step: it is not enabled, not in a signature, or of a component that is not there; or
--- the runtime can't tell
+-- why the action at a place is no step: it is not enabled, not in a signature, of a component that is not there, or its
+-- effect has a choice without a value; or the runtime can't tell
 abbrev pub fault_at : ℕ → StepFault → ScheduleFault
 fault_at k step.Undefined = Undefined k
 fault_at k step.Range = Range k
@@ -43,6 +44,7 @@ fault_at k step.Memory = Memory
 fault_at k step.NotEnabled = NotStep k
 fault_at k step.NotMine = NotStep k
 fault_at k step.NoChannel = NotStep k
+fault_at k step.NoChoice = NotStep k
 
 -- a fault of reading lines
 abbrev pub fault_of_line : LineFault → ScheduleFault

@@ -78,7 +78,7 @@ impl<T: Drop> From<AllocFailed<T>> for ScheduleFault {
     }
 }
 
-/// The fault of a step that the action at a place is not: three faults say that it is no step.
+/// The fault of a step that the action at a place is not: four faults say that it is no step.
 pub(crate) fn fault_at(place: usize, fault: StepFault) -> ScheduleFault
     ensures { result ≡ spec.fault_at place fault }
 {
@@ -89,5 +89,6 @@ pub(crate) fn fault_at(place: usize, fault: StepFault) -> ScheduleFault
         StepFault::NotEnabled => ScheduleFault::NotStep(place),
         StepFault::NotMine => ScheduleFault::NotStep(place),
         StepFault::NoChannel => ScheduleFault::NotStep(place),
+        StepFault::NoChoice => ScheduleFault::NotStep(place),
     }
 }

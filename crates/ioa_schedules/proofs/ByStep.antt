@@ -7,13 +7,16 @@ use Rattle.ioa_values.specs.Outcome.{and_then}
 use Rattle.ioa_operators.specs.RangeCheck.{range_check}
 use Rattle.ioa_operators.specs.declared.shape.Shape.{Shape}
 use Rattle.ioa_operators.specs.declared.fault.TermFault.{TermFault}
-use Rattle.ioa_operators.specs.declared.fault.TermFault.TheVariants.{Undefined, Range}
+use Rattle.ioa_operators.specs.declared.fault.TermFault.TheVariants.{Undefined, Range, Memory}
+use Rattle.ioa_terms.specs.declared.choices.EffectFault.{EffectFault}
+use Rattle.ioa_terms.specs.declared.choices.EffectFault.TheVariants as effect
+use Rattle.ioa_terms.specs.Choices.{Left, left, given, effect_check}
 use Rattle.ioa_terms.specs.declared.callee.Callee.{Callee}
 use Rattle.ioa_terms.specs.Bindings.{Bindings}
-use Rattle.ioa_terms.specs.PlainTerm.{PlainTerm, terms_of, PlainStatement, PlainStatements, PlainArms, assign, branch, loop, fire, no_statements, statement, no_arms, arm}
+use Rattle.ioa_terms.specs.PlainTerm.{PlainTerm, terms_of, PlainStatement, PlainStatements, PlainArms, PlainTarget, assign, branch, loop, fire, choosing, no_statements, statement, no_arms, arm}
 use Rattle.ioa_terms.specs.Meaning.{value, values, numbers_met, all_numbers_met}
-use Rattle.ioa_terms.specs.Performance.{test_value, by_test, after_one, numbers_met_by_one, numbers_met_after}
-use Rattle.ioa_terms.specs.Stepwise.{stepwise_test, stepwise_one}
+use Rattle.ioa_terms.specs.Performance.{test_value, by_test, assigned, after_assign, numbers_met_by_assignment, numbers_met_if}
+use Rattle.ioa_terms.specs.Stepwise.{stepwise_test, stepwise_assigned, stepwise_assign}
 use Rattle.ioa_terms.proofs.Stepwise.{range_check_append, range_check_none, range_check_some, made_of, stepwise_is, all_stepwise_is}
 use Rattle.ioa_terms.proofs.Performed.{stepwise_by_is}
 use Rattle.ioa_schedules.specs.Turns.{TurnResult, turn_result, fires, joined_statements, choice, after_step, turn, numbers_met_by_tests, numbers_met_by_step, numbers_met_then, numbers_met_by_turn, turn_answer}
@@ -27,17 +30,41 @@ truth_is ds (Some d) = range_check_some ds d (λ d. range_check [] (as_truth d))
 test_is : (t : PlainTerm ℕ Callee Shape) (e : Bindings) → stepwise_test t e ≡ range_check (numbers_met t e) (test_value t e)
 test_is t e = rw (stepwise_is t e) (truth_is (numbers_met t e) (value t e))
 
--- so is a statement alone
-only : (r : Result Bindings TermFault) → and_then r (λ d. Ok d) ≡ r
-only (Ok d) = refl
-only (Err f) = refl
+-- what an effect leaves, read as what a term gives
+abbrev as_term : EffectFault → TermFault
+as_term effect.Undefined = Undefined
+as_term effect.Range = Range
+as_term effect.Memory = Memory
+as_term effect.NoChoice = Undefined
 
-nothing_behind : (ds : List Data) (o : Option Bindings) → range_check (ds ++ numbers_met_after o (λ d. [])) (option_and_then (λ d. Some d) o) ≡ range_check ds o
-nothing_behind ds None = rw (append-nil ds) refl
-nothing_behind ds (Some d) = rw (append-nil ds) refl
+abbrev back : Result Left EffectFault → Result Bindings TermFault
+back (Ok l) = Ok l.bindings
+back (Err f) = Err (as_term f)
 
-one_is : (s : PlainStatement ℕ Callee Shape) (e : Bindings) → stepwise_one s e ≡ range_check (numbers_met_by_one s e) (after_one s e)
-one_is s e = sym (only (stepwise_one s e)) ∙ stepwise_by_is (s ∷ []) e ∙ nothing_behind (numbers_met_by_one s e) (after_one s e)
+back_is : (r : Result Bindings TermFault) → back (and_then (stepwise_assign r (given [])) (λ l. Ok l)) ≡ r
+back_is (Ok e) = refl
+back_is (Err Undefined) = refl
+back_is (Err Range) = refl
+back_is (Err Memory) = refl
+
+back_none : (b : Bool) → back (if b then Err effect.Undefined else Err effect.Range) ≡ (if b then Err Undefined else Err Range)
+back_none true = refl
+back_none false = refl
+
+back_some : (b : Bool) (e : Bindings) → back (if b then Ok (left e (given [])) else Err effect.Range) ≡ (if b then Ok e else Err Range)
+back_some true e = refl
+back_some false e = refl
+
+nothing_behind : (ds : List Data) (o : Option Bindings) → back (effect_check (ds ++ numbers_met_if (after_assign o (given [])) (λ l. [])) (and_then (after_assign o (given [])) (λ l. Ok l))) ≡ range_check ds o
+nothing_behind ds None = rw (append-nil ds) (back_none (list_all is_within ds))
+nothing_behind ds (Some e) = rw (append-nil ds) (back_some (list_all is_within ds) e)
+
+-- an assignment alone is checked as a whole
+assigned_is : (p : PlainTarget ℕ Callee Shape) (t : PlainTerm ℕ Callee Shape) (e : Bindings) → stepwise_assigned p t e ≡ range_check (numbers_met_by_assignment p t e) (assigned p t e)
+assigned_is p t e =
+    sym (back_is (stepwise_assigned p t e))
+    ∙ ap back (stepwise_by_is (assign p t ∷ []) (left e (given [])))
+    ∙ nothing_behind (numbers_met_by_assignment p t e) (assigned p t e)
 
 answered_none : {A : Type 0} (b : Bool) (held other : Result A TermFault) → if_true (if b then Err Undefined else Err Range) held other ≡ (if b then Err Undefined else Err Range)
 answered_none true held other = refl
@@ -64,10 +91,11 @@ arms_is no_arms rest e = refl
 arms_is (arm t body more) rest e = rw (test_is t e, arms_is more rest e) (choice_is (numbers_met t e) [] (numbers_met_by_tests more e) (test_value t e) (Some body) (choice more rest e))
 
 step_is : (s : PlainStatement ℕ Callee Shape) (rest : PlainStatements ℕ Callee Shape) (e : Bindings) → stepwise_step s rest e ≡ range_check (numbers_met_by_step s e) (after_step s rest e)
-step_is (assign p t) rest e = rw (one_is (assign p t) e) (made_of (numbers_met_by_one (assign p t) e) (after_one (assign p t) e) (λ d. (rest, d)))
+step_is (assign p t) rest e = rw (assigned_is p t e) (made_of (numbers_met_by_assignment p t e) (assigned p t e) (λ d. (rest, d)))
 step_is (branch arms others) rest e = rw (arms_is arms others e) (made_of (numbers_met_by_tests arms e) (choice arms others e) (λ body. (joined_statements body rest, e)))
 step_is (loop t body) rest e = rw (test_is t e) (silent (numbers_met t e) (test_value t e) (joined_statements body (statement (loop t body) rest), e) (rest, e))
 step_is (fire f) rest e = refl
+step_is (choosing c) rest e = refl
 
 -- what comes after a statement is checked with it
 next_is : {A B : Type 0} (ds : List Data) (o : Option A) (more : A → List Data) (next : A → Option B) → and_then (range_check ds o) (λ x. range_check (more x) (next x)) ≡ range_check (ds ++ numbers_met_then o more) (option_and_then next o)
@@ -87,9 +115,11 @@ by_fuel n (statement (fire f) rest) e = rw (all_stepwise_is (terms_of f.argument
 by_fuel zero (statement (assign p t) rest) e = refl
 by_fuel zero (statement (branch arms others) rest) e = refl
 by_fuel zero (statement (loop t body) rest) e = refl
+by_fuel zero (statement (choosing c) rest) e = refl
 by_fuel (suc n) (statement (assign p t) rest) e = on_is (assign p t) rest n e (by_fuel n)
 by_fuel (suc n) (statement (branch arms others) rest) e = on_is (branch arms others) rest n e (by_fuel n)
 by_fuel (suc n) (statement (loop t body) rest) e = on_is (loop t body) rest n e (by_fuel n)
+by_fuel (suc n) (statement (choosing c) rest) e = on_is (choosing c) rest n e (by_fuel n)
 
 pub stepwise_turn_is : (todo : PlainStatements ℕ Callee Shape) (n : ℕ) (e : Bindings) → stepwise_turn todo n e ≡ turn_answer todo n e
 stepwise_turn_is todo n e = by_fuel n todo e

@@ -7,7 +7,7 @@ use Rattle.ioa_terms.specs.declared.callee.Callee.{Callee}
 use Rattle.ioa_terms.specs.declared.name.Name.{Name}
 use Rattle.ioa_terms.specs.Bindings.{Bindings}
 use Rattle.std.specs.List.{AllByRecursion}
-use Rattle.ioa_terms.specs.PlainTerm.{PlainTerm, PlainFiring, terms_of, PlainStatement, PlainStatements, assign, branch, loop, fire, no_statements, statement}
+use Rattle.ioa_terms.specs.PlainTerm.{PlainTerm, PlainFiring, terms_of, PlainStatement, PlainStatements, assign, branch, loop, fire, choosing, no_statements, statement}
 use Rattle.ioa_terms.specs.Resolved.{AreAllResolved, AreTermsResolved, IsResolved, IsResolvedStatement}
 use Rattle.ioa_terms.specs.Stepwise.{stepwise_answers}
 use Rattle.ioa_schedules.specs.Turns.{turn_result, fires, idle, IsAtFire, IsAtFiring, IsFirst, following_statements, is_fire, ends_turn}
@@ -55,6 +55,7 @@ idle_by (assign p t) rest e h = refl
 idle_by (branch arms others) rest e h = refl
 idle_by (loop t body) rest e h = refl
 idle_by (fire f) rest e h = absurd (cc)
+idle_by (choosing c) rest e h = refl
 
 pub idle_first : (s : PlainStatement ℕ Callee Shape) (todo : PlainStatements ℕ Callee Shape) (e : Bindings) → is_fire s ≡ false → IsFirst s todo → stepwise_turn todo 0 e ≡ Ok (turn_result idle todo e)
 idle_first s no_statements e k h = absurd h
@@ -80,6 +81,7 @@ turn_goes_on (statement (assign p t) rest) (suc n) e h l = let same : suc n - 1 
 turn_goes_on (statement (branch arms others) rest) (suc n) e h l = let same : suc n - 1 ≡ n = omega arith in rw same refl
 turn_goes_on (statement (loop t body) rest) (suc n) e h l = let same : suc n - 1 ≡ n = omega arith in rw same refl
 turn_goes_on (statement (fire f) rest) (suc n) e h l = absurd (cc)
+turn_goes_on (statement (choosing c) rest) (suc n) e h l = refl
 
 pub turn_on : (todo next : PlainStatements ℕ Callee Shape) (n : ℕ) (e d : Bindings) → ends_turn todo ≡ false → 0 < n → stepwise_first todo e ≡ Ok (next, d) → stepwise_turn todo n e ≡ stepwise_turn next (n - 1) d
 turn_on todo next n e d h l k = turn_goes_on todo n e h l ∙ rw k refl
@@ -95,3 +97,4 @@ turn_ends (statement (assign p t) rest) n e h = absurd (cc)
 turn_ends (statement (branch arms others) rest) n e h = absurd (cc)
 turn_ends (statement (loop t body) rest) n e h = absurd (cc)
 turn_ends (statement (fire f) rest) n e h = refl
+turn_ends (statement (choosing c) rest) n e h = absurd (cc)

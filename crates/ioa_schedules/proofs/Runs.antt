@@ -9,9 +9,9 @@ use Rattle.ioa_terms.specs.declared.callee.Callee.{Callee}
 use Rattle.ioa_terms.specs.Inboxes.{lent_values}
 use Rattle.ioa_terms.specs.declared.name.Name.{Name}
 use Rattle.ioa_terms.specs.Bindings.{Bindings}
-use Rattle.ioa_terms.specs.PlainTerm.{PlainStatement, PlainStatements, PlainArms, assign, branch, loop, fire, no_statements, statement, no_arms, arm}
+use Rattle.ioa_terms.specs.PlainTerm.{PlainStatement, PlainStatements, PlainArms, assign, branch, loop, fire, choosing, no_statements, statement, no_arms, arm}
 use Rattle.ioa_terms.specs.Resolved.{AreAllResolved, AreArmsResolved, IsResolvedStatement}
-use Rattle.ioa_terms.specs.Stepwise.{stepwise_test, stepwise_one}
+use Rattle.ioa_terms.specs.Stepwise.{stepwise_test, stepwise_assigned}
 use Rattle.ioa_terms.specs.declared.environment.View.{View}
 use Rattle.ioa_schedules.specs.Turns.{joined_statements}
 use Rattle.ioa_schedules.specs.TurnsByStep.{if_true, stepwise_choice, stepwise_step, stepwise_first}
@@ -53,10 +53,11 @@ module _ (variables names : List Name) where
 
   -- what is left of any statement
   step_resolved : (s : PlainStatement ℕ Callee Shape) (rest next : PlainStatements ℕ Callee Shape) (e d : Bindings) → stepwise_step s rest e ≡ Ok (next, d) → IsResolvedStatement s variables names → AreAllResolved rest variables names → AreAllResolved next variables names
-  step_resolved (assign p t) rest next e d h s r = behind (stepwise_one (assign p t) e) rest next d h r
+  step_resolved (assign p t) rest next e d h s r = behind (stepwise_assigned p t e) rest next d h r
   step_resolved (branch arms others) rest next e d h s r = branched (stepwise_choice arms others e) rest next e d h (λ body g. choice_resolved arms others body e g s.0 s.1) r
   step_resolved (loop t body) rest next e d h s r = looped (stepwise_test t e) body (statement (loop t body) rest) rest next e d h s.1 (s, r) r
   step_resolved (fire f) rest next e d h s r = absurd (cc)
+  step_resolved (choosing c) rest next e d h s r = absurd (cc)
 
   first_kept : (todo next : PlainStatements ℕ Callee Shape) (e d : Bindings) → stepwise_first todo e ≡ Ok (next, d) → AreAllResolved todo variables names → AreAllResolved next variables names
   first_kept no_statements next e d h r = absurd (cc)

@@ -1,12 +1,14 @@
 -- What a turn keeps, and where it may be cut.
 use Rattle.std.proofs.Common.{◌≡◌, ◌+◌, ℕ, zero, suc, Bool, true, false, [], ◌∷◌, Option, Some, None, refl, sym, ap, ◌∙◌, arith}
 use Rattle.std.specs.Option.{option_and_then, option_map}
+use Rattle.ioa_values.specs.Outcome.{and_then}
 use Rattle.ioa_operators.specs.declared.shape.Shape.{Shape}
 use Rattle.ioa_terms.specs.declared.callee.Callee.{Callee}
 use Rattle.ioa_terms.specs.Bindings.{Bindings, names_of}
-use Rattle.ioa_terms.specs.PlainTerm.{terms_of, PlainStatement, PlainStatements, assign, branch, loop, fire, no_statements, statement}
+use Rattle.ioa_terms.specs.PlainTerm.{terms_of, PlainStatement, PlainStatements, PlainTarget, PlainTerm, assign, branch, loop, fire, choosing, no_statements, statement}
 use Rattle.ioa_terms.specs.Meaning.{values}
-use Rattle.ioa_terms.specs.Performance.{test_value, by_test, after_one, after_all}
+use Rattle.ioa_terms.specs.Choices.{left, given}
+use Rattle.ioa_terms.specs.Performance.{test_value, by_test, assigned, after_all, after_assign}
 use Rattle.ioa_terms.proofs.Statements.{after_names}
 use Rattle.ioa_schedules.specs.Turns.{TurnResult, turn_result, fires, idle, done, joined_statements, choice, after_step, turn}
 
@@ -28,12 +30,17 @@ loop_names None again rest e p h = absurd (cc)
 loop_names (Some true) again rest e p h = let same : (again, e) ≡ p = cc in sym (ap (λ (q : State). names_of q.1) same)
 loop_names (Some false) again rest e p h = let same : (rest, e) ≡ p = cc in sym (ap (λ (q : State). names_of q.1) same)
 
+-- by what an effect leaves that chooses nothing
+assignment_names : (q : PlainTarget ℕ Callee Shape) (t : PlainTerm ℕ Callee Shape) (e f : Bindings) → assigned q t e ≡ Some f → names_of f ≡ names_of e
+assignment_names q t e f k = after_names (assign q t ∷ []) (left e (given [])) (left f (given [])) (ap (λ (o : Option Bindings). and_then (after_assign o (given [])) (after_all {N = ℕ} {C = Callee} no_statements)) k)
+
 -- nor does any statement
 step_names : (s : PlainStatement ℕ Callee Shape) (rest : PlainStatements ℕ Callee Shape) (e : Bindings) (p : State) → after_step s rest e ≡ Some p → names_of p.1 ≡ names_of e
-step_names (assign q t) rest e p h = assigned_names (after_one (assign q t) e) rest e p (λ f k. after_names (assign q t ∷ []) e f (ap (option_and_then (after_all {N = ℕ} {C = Callee} no_statements)) k)) h
+step_names (assign q t) rest e p h = assigned_names (assigned q t e) rest e p (λ f k. assignment_names q t e f k) h
 step_names (branch arms others) rest e p h = branch_names (choice arms others e) rest e p h
 step_names (loop t body) rest e p h = loop_names (test_value t e) (joined_statements body (statement (loop t body) rest)) rest e p h
 step_names (fire f) rest e p h = absurd (cc)
+step_names (choosing c) rest e p h = absurd (cc)
 
 -- a turn that ends at once
 here_names : (e : Bindings) (t r : TurnResult) → t.bindings ≡ e → Some t ≡ Some r → names_of r.bindings ≡ names_of e
@@ -53,9 +60,11 @@ names_by n (statement (fire f) rest) e r h = fire_names (values (terms_of f.argu
 names_by zero (statement (assign p t) rest) e r h = here_names e (turn_result idle (statement (assign p t) rest) e) r refl h
 names_by zero (statement (branch arms others) rest) e r h = here_names e (turn_result idle (statement (branch arms others) rest) e) r refl h
 names_by zero (statement (loop t body) rest) e r h = here_names e (turn_result idle (statement (loop t body) rest) e) r refl h
+names_by zero (statement (choosing c) rest) e r h = here_names e (turn_result idle (statement (choosing c) rest) e) r refl h
 names_by (suc n) (statement (assign p t) rest) e r h = on_names (after_step (assign p t) rest e) n e r (step_names (assign p t) rest e) (λ todo d k. names_by n todo d r k) h
 names_by (suc n) (statement (branch arms others) rest) e r h = on_names (after_step (branch arms others) rest e) n e r (step_names (branch arms others) rest e) (λ todo d k. names_by n todo d r k) h
 names_by (suc n) (statement (loop t body) rest) e r h = on_names (after_step (loop t body) rest e) n e r (step_names (loop t body) rest e) (λ todo d k. names_by n todo d r k) h
+names_by (suc n) (statement (choosing c) rest) e r h = absurd (cc)
 
 pub turn_names : (todo : PlainStatements ℕ Callee Shape) (n : ℕ) (e : Bindings) (r : TurnResult) → turn todo n e ≡ Some r → names_of r.bindings ≡ names_of e
 turn_names todo n e r h = names_by n todo e r h
@@ -85,6 +94,7 @@ limit_by n (statement (fire f) rest) m e r h k = absurd (fire_not_idle (values (
 limit_by zero (statement (assign p t) rest) m e r h k = idle_here (statement (assign p t) rest) m e r h
 limit_by zero (statement (branch arms others) rest) m e r h k = idle_here (statement (branch arms others) rest) m e r h
 limit_by zero (statement (loop t body) rest) m e r h k = idle_here (statement (loop t body) rest) m e r h
+limit_by zero (statement (choosing c) rest) m e r h k = idle_here (statement (choosing c) rest) m e r h
 limit_by (suc n) (statement (assign p t) rest) m e r h k =
     let more : suc n + m ≡ suc (n + m) = omega arith in
     rw more (on_limit (after_step (assign p t) rest e) n m r (λ todo d g. limit_by n todo m d r g k) h)
@@ -94,6 +104,7 @@ limit_by (suc n) (statement (branch arms others) rest) m e r h k =
 limit_by (suc n) (statement (loop t body) rest) m e r h k =
     let more : suc n + m ≡ suc (n + m) = omega arith in
     rw more (on_limit (after_step (loop t body) rest e) n m r (λ todo d g. limit_by n todo m d r g k) h)
+limit_by (suc n) (statement (choosing c) rest) m e r h k = absurd (cc)
 
 pub turn_goes_on_from : (todo : PlainStatements ℕ Callee Shape) (n m : ℕ) (e : Bindings) (r : TurnResult) → turn todo n e ≡ Some r → r.ending ≡ idle → turn todo (n + m) e ≡ turn r.todo m r.bindings
 turn_goes_on_from todo n m e r h k = limit_by n todo m e r h k

@@ -8,7 +8,7 @@ use Rattle.ioa_operators.specs.declared.shape.Shape.{Shape}
 use Rattle.ioa_operators.specs.declared.fault.TermFault.{TermFault}
 use Rattle.ioa_terms.specs.declared.callee.Callee.{Callee}
 use Rattle.ioa_terms.specs.Bindings.{Bindings}
-use Rattle.ioa_terms.specs.PlainTerm.{PlainTerm, PlainStatement, PlainStatements, PlainArms, assign, branch, loop, fire, no_statements, statement, no_arms, arm}
+use Rattle.ioa_terms.specs.PlainTerm.{PlainTerm, PlainStatement, PlainStatements, PlainArms, assign, branch, loop, fire, choosing, no_statements, statement, no_arms, arm}
 use Rattle.ioa_terms.specs.Stepwise.{stepwise_test}
 use Rattle.ioa_schedules.specs.Turns.{TurnResult, joined_statements}
 use Rattle.ioa_schedules.specs.TurnsByStep.{if_true, stepwise_choice, stepwise_turn}
@@ -84,6 +84,7 @@ mutual
       let found = test_false (stepwise_test t e) (k + 1) n h in
       subst (λ (m : ℕ). Counted k m (λ l. stepwise_turn (statement (loop t body) rest) l e) (λ l. stepwise_turn rest l e)) found.1 (one_taken k (λ l. stepwise_turn (statement (loop t body) rest) l e) (λ l. stepwise_turn rest l e) (λ l. rw found.0 refl))
   one_counted (fire f) rest k n e h = absurd (cc)
+  one_counted (choosing c) rest k n e h = absurd (cc)
 
   choice_counted : (arms : PlainArms ℕ Callee Shape) (others rest : PlainStatements ℕ Callee Shape) (other : Option ℕ) (k n : ℕ) (e : Bindings) → quiet_choice arms other k e ≡ Some n → (other ≡ Some n → Counted k n (λ l. stepwise_turn (joined_statements others rest) l e) (λ l. stepwise_turn rest l e)) → Counted k n (on_choice (stepwise_choice arms others e) rest e) (λ l. stepwise_turn rest l e)
   choice_counted no_arms others rest other k n e h f = f h
@@ -103,6 +104,7 @@ round_counted (statement (loop t body) rest) n e h =
     let found = test_true (stepwise_test t e) (quiet_all body 1 e) n h in
     while_round t body rest n e found.0 found.1
 round_counted (statement (fire f) rest) n e h = absurd (cc)
+round_counted (statement (choosing c) rest) n e h = absurd (cc)
 
 -- many rounds
 many_rounds : (n : ℕ) (course : Course) (m l : ℕ) → Counted 0 n course course → course (m * n + l) ≡ course l

@@ -7,7 +7,7 @@ use Rattle.ioa_operators.specs.declared.fault.TermFault.{TermFault}
 use Rattle.ioa_terms.specs.declared.callee.Callee.{Callee}
 use Rattle.ioa_terms.specs.Bindings.{Bindings}
 use Rattle.ioa_terms.specs.PlainTerm.{PlainStatement, PlainStatements, PlainArms}
-use Rattle.ioa_terms.specs.PlainTerm.{assign, branch, loop, fire, no_statements, statement, no_arms, arm}
+use Rattle.ioa_terms.specs.PlainTerm.{assign, branch, loop, fire, choosing, no_statements, statement, no_arms, arm}
 use Rattle.ioa_terms.specs.Stepwise.{stepwise_test}
 
 -- one of two counts, by the result of a test (form): none if it has no truth value
@@ -28,6 +28,7 @@ abbrev mutual
   quiet_one (branch arms others) taken e = quiet_choice arms (quiet_all others (taken + 1) e) (taken + 1) e
   quiet_one (loop t body) taken e = count_by (stepwise_test t e) None (Some (taken + 1))
   quiet_one (fire f) taken e = None
+  quiet_one (choosing c) taken e = None
 
   -- the same of those with which an `if` goes on: the first arm whose test is true, or the rest
   pub quiet_choice : PlainArms ℕ Callee Shape → Option ℕ → ℕ → Bindings → Option ℕ
@@ -42,6 +43,7 @@ begins_quietly (statement (assign p t) rest) = false
 begins_quietly (statement (branch arms others) rest) = true
 begins_quietly (statement (loop t body) rest) = true
 begins_quietly (statement (fire f) rest) = false
+begins_quietly (statement (choosing c) rest) = false
 
 -- whether the first of those with which an `if` goes on may be one that changes nothing (form)
 abbrev pub choice_begins_quietly : PlainArms ℕ Callee Shape → Bool → Bool
@@ -55,6 +57,7 @@ may_be_quiet (statement (assign p t) rest) = false
 may_be_quiet (statement (branch arms others) rest) = choice_begins_quietly arms (begins_quietly others)
 may_be_quiet (statement (loop t body) rest) = true
 may_be_quiet (statement (fire f) rest) = false
+may_be_quiet (statement (choosing c) rest) = false
 
 -- how many statements one round of a `while` takes, if it changes nothing (form)
 abbrev pub round_by : PlainStatement ℕ Callee Shape → Bindings → Option ℕ
@@ -62,6 +65,7 @@ round_by (assign p t) e = None
 round_by (branch arms others) e = None
 round_by (loop t body) e = count_by (stepwise_test t e) (quiet_all body 1 e) None
 round_by (fire f) e = None
+round_by (choosing c) e = None
 
 -- the same of the `while` that comes first
 abbrev pub round_of : PlainStatements ℕ Callee Shape → Bindings → Option ℕ

@@ -17,8 +17,9 @@ use Rattle.ioa_terms.specs.contracts.callee.Callee as callee
 use Rattle.ioa_terms.specs.declared.callee.Callee.{Callee}
 use Rattle.ioa_terms.specs.contracts.name.Name as name
 use Rattle.ioa_terms.specs.contracts.tree.Kind as kind
-use Rattle.ioa_terms.specs.PlainTerm.{PlainStatement, PlainTarget, PlainTerm, PlainFiring}
-use Rattle.ioa_terms.specs.PlainTerm.{PlainTerm-set, PlainTarget-set, PlainStatement-set, PlainFiring-set}
+use Rattle.ioa_terms.specs.PlainSort.{PlainSort-set}
+use Rattle.ioa_terms.specs.PlainTerm.{PlainStatement, PlainTarget, PlainTerm, PlainFiring, PlainChoice}
+use Rattle.ioa_terms.specs.PlainTerm.{PlainTerm-set, PlainTarget-set, PlainStatement-set, PlainFiring-set, PlainChoice-set}
 
 word_set : IsSet (List ℕ)
 word_set = List-set ℕ_set
@@ -54,6 +55,9 @@ target_set = PlainTarget-set word_set ℕ_set shape_set term_set
 firing_set : IsSet (PlainFiring ℕ Callee Shape)
 firing_set = PlainFiring-set (Option-set (Coded-set kind.the_row.coded)) word_set ℕ_set (List-set term_set)
 
+choice_set : IsSet (PlainChoice ℕ Callee Shape)
+choice_set = PlainChoice-set target_set word_set (PlainSort-set word_set) shape_set term_set
+
 -- the statements of a list
 pub AreStatements-set : IsSet (List (PlainStatement ℕ Callee Shape))
-AreStatements-set = List-set (PlainStatement-set target_set term_set firing_set)
+AreStatements-set = List-set (PlainStatement-set target_set term_set firing_set choice_set)

@@ -11,9 +11,9 @@ use Rattle.ioa_terms.specs.declared.callee.Callee.{Callee}
 use Rattle.ioa_terms.specs.declared.tree.Kind.{Kind}
 use Rattle.ioa_terms.specs.Bindings.{Bindings}
 use Rattle.ioa_terms.specs.PlainTerm.{terms_of, PlainFiring, PlainStatement, PlainStatements, PlainArms}
-use Rattle.ioa_terms.specs.PlainTerm.{assign, branch, loop, fire, no_statements, statement, no_arms, arm}
+use Rattle.ioa_terms.specs.PlainTerm.{assign, branch, loop, fire, choosing, no_statements, statement, no_arms, arm}
 use Rattle.ioa_terms.specs.Meaning.{values, numbers_met, all_numbers_met}
-use Rattle.ioa_terms.specs.Performance.{test_value, by_test, after_one, numbers_met_by_one}
+use Rattle.ioa_terms.specs.Performance.{test_value, by_test, assigned, numbers_met_by_assignment}
 use Rattle.ioa_schedules.specs.declared.turn.TheConstants.{TURN_LIMIT}
 
 -- how a turn ends (profile): the block stands at a `fire`, whose action has this name and these arguments, and this
@@ -45,6 +45,7 @@ is_fire (assign p t) = false
 is_fire (branch arms rest) = false
 is_fire (loop t body) = false
 is_fire (fire f) = true
+is_fire (choosing c) = false
 
 -- whether a turn ends here by itself (profile): nothing is left to do, or a `fire` comes first
 abbrev pub ends_turn : PlainStatements ℕ Callee Shape → Bool
@@ -79,14 +80,15 @@ choice (arm t body more) rest e = by_test (test_value t e) None (Some body) (cho
 
 -- one statement taken, with others behind it (profile): what is to do then, and the environment. An assignment is
 -- performed; an `if` becomes what it goes on with; a `while` whose test is true becomes its body and then itself, and
--- one whose test is false is over. A `fire` is not taken.
+-- one whose test is false is over. A `fire` is not taken, and no block has a choice.
 abbrev pub after_step : PlainStatement ℕ Callee Shape → PlainStatements ℕ Callee Shape → Bindings →
     Option (PlainStatements ℕ Callee Shape × Bindings)
-after_step (assign p t) rest e = option_map (λ d. (rest, d)) (after_one (assign p t) e)
+after_step (assign p t) rest e = option_map (λ d. (rest, d)) (assigned p t e)
 after_step (branch arms others) rest e = option_map (λ body. (joined_statements body rest, e)) (choice arms others e)
 after_step (loop t body) rest e =
     by_test (test_value t e) None (Some (joined_statements body (statement (loop t body) rest), e)) (Some (rest, e))
 after_step (fire f) rest e = None
+after_step (choosing c) rest e = None
 
 -- a turn of at most `n` statements (profile). Where the block stands at a `fire` its arguments are evaluated, and the
 -- `fire` stays the first statement; a `fire` and the end count for no statement.
@@ -106,10 +108,11 @@ numbers_met_by_tests (arm t body more) e =
 
 -- the results that one statement meets when it is taken (profile)
 abbrev pub numbers_met_by_step : PlainStatement ℕ Callee Shape → Bindings → List Data
-numbers_met_by_step (assign p t) e = numbers_met_by_one (assign p t) e
+numbers_met_by_step (assign p t) e = numbers_met_by_assignment p t e
 numbers_met_by_step (branch arms others) e = numbers_met_by_tests arms e
 numbers_met_by_step (loop t body) e = numbers_met t e
 numbers_met_by_step (fire f) e = []
+numbers_met_by_step (choosing c) e = []
 
 -- the results that are met after a statement (profile): none if it leaves nothing
 abbrev pub numbers_met_then : {A : Type 0} → Option A → (A → List Data) → List Data

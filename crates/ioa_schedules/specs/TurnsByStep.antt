@@ -7,8 +7,8 @@ use Rattle.ioa_operators.specs.declared.fault.TermFault.{TermFault}
 use Rattle.ioa_terms.specs.declared.callee.Callee.{Callee}
 use Rattle.ioa_terms.specs.Bindings.{Bindings}
 use Rattle.ioa_terms.specs.PlainTerm.{terms_of, PlainStatement, PlainStatements, PlainArms}
-use Rattle.ioa_terms.specs.PlainTerm.{assign, branch, loop, fire, no_statements, statement, no_arms, arm}
-use Rattle.ioa_terms.specs.Stepwise.{stepwise_answers, stepwise_test, stepwise_one}
+use Rattle.ioa_terms.specs.PlainTerm.{assign, branch, loop, fire, choosing, no_statements, statement, no_arms, arm}
+use Rattle.ioa_terms.specs.Stepwise.{stepwise_answers, stepwise_test, stepwise_assigned}
 use Rattle.ioa_schedules.specs.Turns.{TurnResult, turn_result, fires, idle, done, joined_statements}
 
 -- one of two, by the result of a test (form)
@@ -26,12 +26,13 @@ stepwise_choice (arm t body more) rest e = if_true (stepwise_test t e) (Ok body)
 -- one statement taken, with others behind it (form)
 abbrev pub stepwise_step : PlainStatement ℕ Callee Shape → PlainStatements ℕ Callee Shape → Bindings →
     Result (PlainStatements ℕ Callee Shape × Bindings) TermFault
-stepwise_step (assign p t) rest e = and_then (stepwise_one (assign p t) e) (λ d. Ok (rest, d))
+stepwise_step (assign p t) rest e = and_then (stepwise_assigned p t e) (λ d. Ok (rest, d))
 stepwise_step (branch arms others) rest e =
     and_then (stepwise_choice arms others e) (λ body. Ok (joined_statements body rest, e))
 stepwise_step (loop t body) rest e =
     if_true (stepwise_test t e) (Ok (joined_statements body (statement (loop t body) rest), e)) (Ok (rest, e))
 stepwise_step (fire f) rest e = range_check [] None
+stepwise_step (choosing c) rest e = range_check [] None
 
 -- the first statement taken (form); where nothing is left to do there is none
 abbrev pub stepwise_first :

@@ -79,6 +79,7 @@ fn may_be_quiet(body: &[Statement<usize, Callee, Shape>]) -> bool
         [Statement::If(arms, others), ..] => choice_begins_quietly(arms, others),
         [Statement::While(..), ..] => true,
         [Statement::Fire(..), ..] => false,
+        [Statement::Choose(..), ..] => false,
     }
 }
 
@@ -108,6 +109,7 @@ fn begins_quietly(body: &[Statement<usize, Callee, Shape>]) -> bool
         [Statement::If(..), ..] => true,
         [Statement::While(..), ..] => true,
         [Statement::Fire(..), ..] => false,
+        [Statement::Choose(..), ..] => false,
     }
 }
 
@@ -182,5 +184,6 @@ fn quiet_count(
             }
         }
         Statement::Fire(_) => None,
+        Statement::Choose(_) => None,
     }
 }

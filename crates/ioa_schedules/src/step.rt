@@ -30,6 +30,7 @@ pub(crate) fn is_fire(statement: &Statement<usize, Callee, Shape>) -> bool
         Statement::If(_, _) => false,
         Statement::While(_, _) => false,
         Statement::Fire(_) => true,
+        Statement::Choose(_) => false,
     }
 }
 
@@ -57,8 +58,8 @@ fn choice<'a>(
 }
 
 /// Takes the first statement of a block, of `left` that may be taken still. Returns of how many it is the first one:
-/// whole rounds that change nothing are counted before it. `Undefined (1)` if there is none, or if it is a `fire`: none
-/// is taken.
+/// whole rounds that change nothing are counted before it. `Undefined (1)` if there is none, or if it is a `fire` or a
+/// choice: none is taken.
 #[inline(always)]
 #[tactic(auto, using(crate::proofs::Firsts::first_rules))]
 pub(crate) fn take_first<'a>(
@@ -126,6 +127,7 @@ fn take_statement<'a>(
         }
         Statement::While(test, body) => take_loop(alloc, view, state, test, body, left),
         Statement::Fire(_) => Err(TermFault::Undefined),
+        Statement::Choose(_) => Err(TermFault::Undefined),
     }
 }
 

@@ -55,9 +55,9 @@ impl<'a> Stepping<'a> {
         &self.state.variables
     }
 
-    /// Takes the first statement (profile), as a turn does. `Undefined (1)` if there is none, if it is a `fire`, or if
-    /// a term of it has no value, `Range (2)` if a number lies outside 64 bits, and `Memory (3)` if no memory is left.
-    /// After a fault nothing is said of what is to do.
+    /// Takes the first statement (profile), as a turn does. `Undefined (1)` if there is none, if it is a `fire` or a
+    /// choice, or if a term of it has no value, `Range (2)` if a number lies outside 64 bits, and `Memory (3)` if no
+    /// memory is left. After a fault nothing is said of what is to do.
     #[tactic(auto, using(crate::proofs::Runs::on_rules))]
     pub fn take(&mut self, alloc: Global, view: &View) -> Result<(), TermFault>
         requires named { IsNamed view.now (own_in self.old) }

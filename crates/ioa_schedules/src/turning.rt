@@ -302,5 +302,6 @@ fn firing_in(statement: &Statement<usize, Callee, Shape>) -> Option<&Firing<usiz
         Statement::If(_, _) => None,
         Statement::While(_, _) => None,
         Statement::Fire(firing) => Some(firing),
+        Statement::Choose(_) => None,
     }
 }

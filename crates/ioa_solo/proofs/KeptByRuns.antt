@@ -57,6 +57,7 @@ outcome_leads limit s a (Err step.Range) e = record { differs = λ h. absurd (cc
 outcome_leads limit s a (Err step.Memory) e = record { differs = λ h. absurd (cc); unknown = λ h. absurd (cc) }
 outcome_leads limit s a (Err step.NotMine) e = record { differs = λ h. absurd (cc); unknown = λ h. absurd (cc) }
 outcome_leads limit s a (Err step.NoChannel) e = record { differs = λ h. absurd (cc); unknown = λ h. absurd (cc) }
+outcome_leads limit s a (Err step.NoChoice) e = record { differs = λ h. absurd (cc); unknown = λ h. absurd (cc) }
 
 fire_leads : (limit : ℕ) (s : PlainCourse) (k : ℤ) (a : Action) → LeadsToStep s.states (fire_answer limit s.schedule s.states k a)
 unfolding LeadsToStep

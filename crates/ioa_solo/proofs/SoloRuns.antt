@@ -48,6 +48,7 @@ step_roomy limit s a (Err step.Range) e = tt
 step_roomy limit s a (Err step.Memory) e = tt
 step_roomy limit s a (Err step.NotMine) e = tt
 step_roomy limit s a (Err step.NoChannel) e = tt
+step_roomy limit s a (Err step.NoChoice) e = tt
 
 fire_roomy : (limit : ℕ) (s : PlainCourse) (k : ℤ) (a : Action) → IsRoomyStep limit s (fire_answer limit s.schedule s.states k a)
 unfolding IsRoomyStep

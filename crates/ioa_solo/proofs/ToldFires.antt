@@ -89,6 +89,7 @@ by_fault step.Range s p = refl
 by_fault step.Memory s p = refl
 by_fault step.NotMine s p = refl
 by_fault step.NoChannel s p = refl
+by_fault step.NoChoice s p = refl
 
 pub failed_comes : (old : PlainBook) (p : PlainProgress) (a : Action) (s : PlainSnapshot) (f : StepFault) → IsLookAt old p.program.node s → (f ≡ step.Memory → ⊥) →
     (f ≡ step.Memory) ⊎ (proposal_answer a s ≡ Err f) → IsAfterFire old p a old (failed_by f p)

@@ -109,6 +109,7 @@ is_memory fault.Undefined = false
 is_memory fault.Range = false
 is_memory fault.NotMine = false
 is_memory fault.NoChannel = false
+is_memory fault.NoChoice = false
 is_memory fault.Differs = false
 is_memory fault.Full = false
 is_memory fault.Unknown = false

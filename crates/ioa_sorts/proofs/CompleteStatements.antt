@@ -5,7 +5,7 @@ use Rattle.ioa_operators.specs.Shapes.{PlainShape, truths, maps}
 use Rattle.ioa_operators.specs.declared.shape.Shape.{Shape}
 use Rattle.ioa_terms.specs.declared.callee.Callee.{Callee}
 use Rattle.ioa_terms.specs.declared.name.Name.TheVariants.{Word}
-use Rattle.ioa_terms.specs.PlainTerm.{variable, at_key, at_field, assign, branch, loop, fire, no_statements, statement, statements_of, PlainArms, no_arms, arm, arms_of}
+use Rattle.ioa_terms.specs.PlainTerm.{variable, at_key, at_field, assign, branch, loop, fire, choosing, no_statements, statement, statements_of, PlainArms, no_arms, arm, arms_of}
 use Rattle.ioa_terms.specs.Resolved.{IsResolvedTarget, IsResolvedFiring, IsResolvedStatement, AreArmsResolved, AreAllResolved}
 use Rattle.ioa_terms.specs.declared.tree.Kind.{Kind}
 use Rattle.ioa_terms.specs.Bindings.{same_word}
@@ -154,6 +154,7 @@ module _ (s : PlainStatementSite) (differ : IsDistinct same_word (map (λ r. r.e
     statement_found (loop t body) h r g =
         rw (← term_found s.names t truths h.1 r.0 g.0, ← allowed_found s.in_block h.0 (term_is t), ← statements_found body h.2 r.1 g.1, statements_listed body) refl
     statement_found (fire f) h r g = rw (← firing_found s.names s.rules differ f h r g) refl
+    statement_found (choosing c) h r g = absurd h
 
     statements_found : (xs : SortedStatements) → AreSorted s xs → AreAllResolved xs (map (λ n. n.0) s.variables) (map (λ n. n.0) s.names) → AreStatementsDetermined (erase_statements xs) → statements_are (listed_statements xs) ≡ all_ok (statement_sortings s (erase_statements xs))
     statements_found no_statements h r g = refl

@@ -4,7 +4,7 @@ use Rattle.std.specs.List.{AllByRecursion, AllZip}
 use Rattle.ioa_values.specs.Outcome.{and_then}
 use Rattle.ioa_operators.specs.Shapes.{PlainShape, truths, maps}
 use Rattle.ioa_terms.specs.declared.name.Name.TheVariants.{Word}
-use Rattle.ioa_terms.specs.PlainTerm.{variable, at_key, at_field, assign, branch, loop, fire, firing, no_statements, statement, statements_of, no_arms, arm, arms_of}
+use Rattle.ioa_terms.specs.PlainTerm.{variable, at_key, at_field, assign, branch, loop, fire, choosing, firing, no_statements, statement, statements_of, no_arms, arm, arms_of}
 use Rattle.ioa_terms.specs.Resolved.{IsResolved, IsResolvedFiring, IsResolvedTarget, AreArmsResolved, AreAllResolved}
 use Rattle.ioa_terms.specs.declared.tree.Kind.{Kind}
 use Rattle.ioa_terms.proofs.SameTerms.{kind_is}
@@ -225,6 +225,7 @@ module _ (types : TupleTypes) (s : PlainStatementSite) (site : IsDeclaredSite ty
           determined = (f.1.of.determined, b.determined);
         }))
     statement_good (fire f) = fire_good f
+    statement_good (choosing c) = tt
 
     statements_good : (us : SourceStatements) → IfOk (all_ok (statement_sortings s us)) (AreStatementsOf s us)
     statements_good no_statements = record { same = refl; resolved = tt; sorted = tt; determined = tt }

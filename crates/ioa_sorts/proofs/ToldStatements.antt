@@ -4,7 +4,7 @@ use Rattle.std.specs.List.{AllByRecursion}
 use Rattle.ioa_values.specs.Outcome.{and_then}
 use Rattle.ioa_operators.specs.Shapes.{PlainShape, truths}
 use Rattle.ioa_terms.specs.declared.name.Name.TheVariants.{Word}
-use Rattle.ioa_terms.specs.PlainTerm.{variable, at_key, at_field, assign, branch, loop, fire, firing, no_statements, statement, statements_of, no_arms, arm, arms_of}
+use Rattle.ioa_terms.specs.PlainTerm.{variable, at_key, at_field, assign, branch, loop, fire, choosing, firing, no_statements, statement, statements_of, no_arms, arm, arms_of}
 use Rattle.ioa_terms.specs.Sorted.{NameShapes, shape_in_terms}
 use Rattle.ioa_source.specs.Sides.{SourceTarget, SourceTerm, SourceStatement, SourceStatements, SourceArms, SourceFiring}
 use Rattle.ioa_system.specs.Parts.{PlainRule}
@@ -80,6 +80,7 @@ module _ (s : PlainStatementSite) where
         (block_calm s.in_block (fit (sorting s.names t) truths) (fit_is_calm s.names t truths g.0))
         (λ v _. calm_end Anything (λ ss. loop v (statements_of ss)) (all_ok (statement_sortings s body)) (statements_calm body g.1))
     statement_calm (fire f) g = calm_end Anything (λ c. fire c) (firing_at s.names s.rules f) (firing_calm s.names s.rules f g)
+    statement_calm (choosing c) g = unknown_is_calm
 
     statements_calm : (us : SourceStatements) → AreStatementsDetermined us → Calmly Anything (all_ok (statement_sortings s us))
     statements_calm no_statements g = tt

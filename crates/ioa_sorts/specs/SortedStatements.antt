@@ -9,6 +9,7 @@ use Rattle.ioa_terms.specs.declared.callee.Callee.{Callee}
 use Rattle.ioa_terms.specs.declared.name.Name.TheVariants.{Word}
 use Rattle.ioa_terms.specs.declared.tree.Kind.{Kind}
 use Rattle.ioa_terms.specs.PlainTerm.{PlainTarget, variable, at_key, at_field, PlainStatement, assign, branch, loop, fire}
+use Rattle.ioa_terms.specs.PlainTerm.{choosing}
 use Rattle.ioa_terms.specs.PlainTerm.{PlainStatements, no_statements, statement, PlainArms, no_arms, arm}
 use Rattle.ioa_terms.specs.Resolved.{IsResolvedStatement}
 use Rattle.ioa_terms.specs.Sorted.{NameShapes, HasShape, shape_named, shape_in_terms, field_shape}
@@ -44,12 +45,13 @@ pub record IsFired (names : NameShapes) (rules : List PlainRule) (f : CheckedFir
 
 abbrev mutual
   -- what a statement assigns has the shape of the target, what it tests is a truth value, and what it fires is an
-  -- action with its arguments
+  -- action with its arguments; no choice is sorted yet
   pub IsSorted : PlainStatementSite → PlainStatement ℕ Callee Shape → Type 0
   IsSorted s (assign p t) = (u : PlainShape) × HoldsShape s.variables s.names p u × HasShape s.names t u
   IsSorted s (branch arms rest) = AreArmsSorted s arms × AreSorted s rest
   IsSorted s (loop t body) = (s.in_block ≡ true) × HasShape s.names t truths × AreSorted s body
   IsSorted s (fire f) = IsFired s.names s.rules f
+  IsSorted s (choosing c) = ⊥
 
   pub AreArmsSorted : PlainStatementSite → PlainArms ℕ Callee Shape → Type 0
   AreArmsSorted s no_arms = Unit {0}
@@ -72,6 +74,7 @@ abbrev mutual
   IsDeterminedStatement (branch arms rest) = AreArmsDetermined arms × AreStatementsDetermined rest
   IsDeterminedStatement (loop t body) = IsDetermined t × AreStatementsDetermined body
   IsDeterminedStatement (fire f) = AllByRecursion IsDetermined f.arguments
+  IsDeterminedStatement (choosing c) = IsDeterminedTarget c.target × IsDetermined c.condition × IsDetermined c.yields
 
   pub AreArmsDetermined : SourceArms → Type 0
   AreArmsDetermined no_arms = Unit {0}

@@ -1,5 +1,6 @@
 -- The sorts of statements (profile): each assigned term has the shape of its target, each test is a truth value, and
--- each firing is of an action with its arguments. Only a schedule block has `while` and `fire`.
+-- each firing is of an action with its arguments. Only a schedule block has `while` and `fire`. A choice is refused: the
+-- check knows none yet.
 use Rattle.std.specs.Prelude.{ℕ, Bool, if◌then◌else◌, List, [], ◌∷◌, Option, Some, None, Result, Ok, Err}
 use Rattle.ioa_values.specs.Outcome.{and_then}
 use Rattle.ioa_operators.specs.Shapes.{PlainShape, truths}
@@ -7,6 +8,7 @@ use Rattle.ioa_operators.specs.declared.shape.Shape.{Shape}
 use Rattle.ioa_terms.specs.declared.callee.Callee.{Callee}
 use Rattle.ioa_terms.specs.declared.name.Name.TheVariants.{Word}
 use Rattle.ioa_terms.specs.PlainTerm.{PlainTarget, variable, at_key, at_field, PlainStatement, assign, branch, loop, fire}
+use Rattle.ioa_terms.specs.PlainTerm.{choosing}
 use Rattle.ioa_terms.specs.PlainTerm.{PlainStatements, no_statements, statement, statements_of, no_arms, arm}
 use Rattle.ioa_terms.specs.PlainTerm.{arms_of}
 use Rattle.ioa_terms.specs.Sorted.{NameShapes, shape_in_terms}
@@ -90,6 +92,7 @@ abbrev mutual
       and_then (if_in_block s.in_block (fit (sorting s.names t) truths))
       (λ v. and_then (all_ok (statement_sortings s body)) (λ ss. Ok (loop v (statements_of ss))))
   statement_sorting s (fire f) = and_then (firing_at s.names s.rules f) (λ c. Ok (fire c))
+  statement_sorting s (choosing c) = Err Unknown
 
   -- each of statements
   pub statement_sortings : PlainStatementSite → SourceStatements → List (Result SortedStatement Refusal)

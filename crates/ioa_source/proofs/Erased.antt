@@ -1,7 +1,7 @@
 -- A text as it is spelled has no annotation to erase.
 use Rattle.std.proofs.Common.{◌≡◌, List, [], ◌∷◌, Option, Some, None, map, refl, ap}
 use Rattle.std.specs.Option.{option_map}
-use Rattle.ioa_terms.specs.PlainTerm.{number, truth, name, one, two, call, display, field, no_terms, term, variable, at_key, at_field, assign, branch, loop, fire, firing, no_statements, statement, no_arms, arm}
+use Rattle.ioa_terms.specs.PlainTerm.{number, truth, name, one, two, call, display, field, no_terms, term, variable, at_key, at_field, assign, branch, loop, fire, choosing, firing, choice_with, no_statements, statement, no_arms, arm}
 use Rattle.ioa_source.specs.PlainText.{const, named, enumeration, tuple_of, type_named, automaton, node, channel, script}
 use Rattle.ioa_source.specs.Sides.{SourceTerm, SourceTerms, SourceTarget, SourceStatement, SourceFiring, SourceStatements, SourceArms, SourceDeclared, SourceParameter, SourceEntry, SourceVariable, SourceTransition, SourceSchedule, SourceAutomaton, SourceForm, SourceType, SourceDeclaration, SourceNode, SourceCall, SourceScript, SourcePlacement, SourceInvariant, SourceText}
 use Rattle.ioa_source.specs.Erasure.{erase_term, erase_terms, erase_target, erase_statement, erase_firing, erase_statements, erase_arms, erase_declared, erase_parameter, erase_entry, erase_variable, erase_transition, erase_schedule, erase_automaton, erase_form, erase_type, erase_declaration, erase_node, erase_call, erase_script, erase_placement, erase_invariant, erase}
@@ -44,6 +44,7 @@ mutual
   statement_erased (branch arms rest) = λ i. branch (arms_erased arms i) (statements_erased rest i)
   statement_erased (loop t body) = λ i. loop (term_erased t i) (statements_erased body i)
   statement_erased (fire f) = ap fire (firing_erased f)
+  statement_erased (choosing c) = λ i. choosing (choice_with (target_erased c.target i) c.name c.sort c.shape (term_erased c.condition i) (term_erased c.yields i))
 
   statements_erased : (ss : SourceStatements) → erase_statements ss ≡ ss
   statements_erased no_statements = refl

@@ -15,11 +15,11 @@ use Rattle.ioa_terms.specs.declared.name.Name.{Name}
 use Rattle.ioa_terms.specs.contracts.name.Name as called
 use Rattle.ioa_terms.specs.declared.tree.Kind.{Kind}
 use Rattle.ioa_terms.specs.contracts.tree.Kind as kind
-use Rattle.ioa_terms.specs.PlainTerm.{PlainTerm-set, PlainTarget-set, PlainStatement-set, PlainFiring-set}
+use Rattle.ioa_terms.specs.PlainTerm.{PlainTerm-set, PlainTarget-set, PlainStatement-set, PlainFiring-set, PlainChoice-set}
 use Rattle.ioa_source.specs.contracts.declaration.Channel as channel
 use Rattle.ioa_terms.specs.PlainSort.{PlainSort-set}
 use Rattle.ioa_source.specs.PlainText.{PlainDeclared-set, PlainParameter-set, PlainEntry-set, PlainVariable-set, PlainTransition-set, PlainSchedule-set, PlainAutomaton-set, PlainForm-set, PlainType-set, PlainDeclaration-set, PlainNode-set, PlainCall-set, PlainScript-set, PlainPlacement-set, PlainInvariant-set, PlainText-set}
-use Rattle.ioa_source.specs.Sides.{SourceTerm, SourceTarget, SourceStatement, SourceFiring, SourceDeclared, SourceEntry, SourceVariable, SourceTransition, SourceSchedule, SourceAutomaton, SourceDeclaration, SourcePlacement, SourceText}
+use Rattle.ioa_source.specs.Sides.{SourceTerm, SourceTarget, SourceStatement, SourceFiring, SourceChoice, SourceDeclared, SourceEntry, SourceVariable, SourceTransition, SourceSchedule, SourceAutomaton, SourceDeclaration, SourcePlacement, SourceText}
 
 word_set : IsSet (List ℕ)
 word_set = List-set ℕ_set
@@ -59,8 +59,11 @@ target_set = PlainTarget-set word_set unit_set unit_set term_set
 firing_set : IsSet SourceFiring
 firing_set = PlainFiring-set (Option-set kind_set) word_set unit_set (List-set term_set)
 
+choice_set : IsSet SourceChoice
+choice_set = PlainChoice-set target_set word_set (PlainSort-set word_set) unit_set term_set
+
 statement_set : IsSet SourceStatement
-statement_set = PlainStatement-set target_set term_set firing_set
+statement_set = PlainStatement-set target_set term_set firing_set choice_set
 
 declared_set : IsSet SourceDeclared
 declared_set = PlainDeclared-set word_set (PlainSort-set word_set) unit_set

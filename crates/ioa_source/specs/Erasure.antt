@@ -4,7 +4,7 @@ use Rattle.std.specs.Prelude.{map}
 use Rattle.std.specs.Option.{option_map}
 use Rattle.ioa_terms.specs.PlainTerm.{PlainTerm, PlainTerms, PlainTarget, PlainStatement, PlainStatements, PlainArms}
 use Rattle.ioa_terms.specs.PlainTerm.{number, truth, name, one, two, call, display, field, no_terms, term}
-use Rattle.ioa_terms.specs.PlainTerm.{variable, at_key, at_field, assign, branch, loop, fire, PlainFiring, firing}
+use Rattle.ioa_terms.specs.PlainTerm.{variable, at_key, at_field, assign, branch, loop, fire, choosing, PlainFiring, firing, PlainChoice, choice_with}
 use Rattle.ioa_terms.specs.PlainTerm.{no_statements, statement, no_arms, arm}
 use Rattle.ioa_source.specs.PlainText.{PlainDeclared, PlainParameter, PlainEntry, PlainVariable, PlainTransition}
 use Rattle.ioa_source.specs.PlainText.{PlainSchedule, PlainAutomaton, PlainForm, PlainType, PlainDeclaration}
@@ -12,7 +12,7 @@ use Rattle.ioa_source.specs.PlainText.{PlainNode, PlainCall, PlainScript, PlainP
 use Rattle.ioa_source.specs.PlainText.{PlainText}
 use Rattle.ioa_source.specs.PlainText.{const, named, enumeration, tuple_of, type_named, automaton, node, channel, script}
 use Rattle.ioa_source.specs.Sides.{SourceTerm, SourceTerms, SourceTarget, SourceStatement, SourceStatements, SourceArms}
-use Rattle.ioa_source.specs.Sides.{SourceFiring, SourceSchedule}
+use Rattle.ioa_source.specs.Sides.{SourceFiring, SourceChoice, SourceSchedule}
 use Rattle.ioa_source.specs.Sides.{SourceDeclared, SourceParameter, SourceEntry, SourceVariable, SourceTransition}
 use Rattle.ioa_source.specs.Sides.{SourceAutomaton, SourceForm, SourceType, SourceDeclaration}
 use Rattle.ioa_source.specs.Sides.{SourceNode, SourceCall, SourceScript, SourcePlacement, SourceInvariant}
@@ -43,12 +43,16 @@ erase_target (at_field w x d f) = at_field w tt tt f
 abbrev pub erase_firing : {N C D : Type 0} → PlainFiring N C D → SourceFiring
 erase_firing f = firing f.kind f.action tt (map erase_term f.arguments)
 
+abbrev pub erase_choice : {N C D : Type 0} → PlainChoice N C D → SourceChoice
+erase_choice c = choice_with (erase_target c.target) c.name c.sort tt (erase_term c.condition) (erase_term c.yields)
+
 abbrev mutual
   pub erase_statement : {N C D : Type 0} → PlainStatement N C D → SourceStatement
   erase_statement (assign p t) = assign (erase_target p) (erase_term t)
   erase_statement (branch arms rest) = branch (erase_arms arms) (erase_statements rest)
   erase_statement (loop t body) = loop (erase_term t) (erase_statements body)
   erase_statement (fire f) = fire (erase_firing f)
+  erase_statement (choosing c) = choosing (erase_choice c)
 
   pub erase_statements : {N C D : Type 0} → PlainStatements N C D → SourceStatements
   erase_statements no_statements = no_statements

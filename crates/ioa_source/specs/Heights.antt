@@ -4,7 +4,7 @@ use Rattle.ioa_terms.specs.declared.name.Name.{Name}
 use Rattle.ioa_terms.specs.declared.name.Name.TheVariants.{Word, Variable, Queue}
 use Rattle.ioa_terms.specs.PlainTerm.{number, truth, name, one, two, call, display, field, no_terms, term}
 use Rattle.ioa_terms.specs.PlainTerm.{variable, at_key, at_field}
-use Rattle.ioa_terms.specs.PlainTerm.{assign, branch, loop, fire, no_statements, statement, no_arms, arm, terms_of}
+use Rattle.ioa_terms.specs.PlainTerm.{assign, branch, loop, fire, choosing, no_statements, statement, no_arms, arm, terms_of}
 use Rattle.ioa_source.specs.Sides.{SourceTerm, SourceTerms, SourceTarget, SourceStatement, SourceStatements, SourceArms}
 use Rattle.ioa_source.specs.declared.height.TheConstants.{HEIGHT_LIMIT}
 
@@ -54,6 +54,7 @@ abbrev mutual
   statement_height (branch arms rest) = suc (max (arms_height arms) (statements_height rest))
   statement_height (loop t body) = suc (max (height t) (statements_height body))
   statement_height (fire f) = max 1 (heights (terms_of f.arguments))
+  statement_height (choosing c) = suc (max (target_height c.target) (max (height c.condition) (height c.yields)))
 
   -- the highest of several statements
   pub statements_height : SourceStatements → ℕ

@@ -5,7 +5,7 @@ use Rattle.std.specs.Prelude.{ℕ}
 use Rattle.ioa_operators.specs.declared.shape.Shape.{Shape}
 use Rattle.ioa_terms.specs.declared.callee.Callee.{Callee}
 use Rattle.ioa_terms.specs.PlainTerm.{PlainTerm, PlainTerms, PlainTarget, PlainStatement, PlainStatements, PlainArms}
-use Rattle.ioa_terms.specs.PlainTerm.{PlainFiring}
+use Rattle.ioa_terms.specs.PlainTerm.{PlainFiring, PlainChoice}
 use Rattle.ioa_source.specs.PlainText.{PlainDeclared, PlainParameter, PlainEntry, PlainVariable, PlainTransition}
 use Rattle.ioa_source.specs.PlainText.{PlainSchedule, PlainAutomaton, PlainForm, PlainType, PlainDeclaration}
 use Rattle.ioa_source.specs.PlainText.{PlainNode, PlainCall, PlainScript, PlainPlacement, PlainInvariant}
@@ -29,6 +29,9 @@ SourceStatements = PlainStatements (Unit {0}) (Unit {0}) (Unit {0})
 
 abbrev pub SourceArms : Type 0
 SourceArms = PlainArms (Unit {0}) (Unit {0}) (Unit {0})
+
+abbrev pub SourceChoice : Type 0
+SourceChoice = PlainChoice (Unit {0}) (Unit {0}) (Unit {0})
 
 abbrev pub SourceFiring : Type 0
 SourceFiring = PlainFiring (Unit {0}) (Unit {0}) (Unit {0})

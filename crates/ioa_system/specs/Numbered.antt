@@ -3,7 +3,7 @@ use Rattle.std.specs.Prelude.{◌≡◌, ℕ, List, Some, slice_get}
 use Rattle.std.specs.Option.{option_map}
 use Rattle.ioa_operators.specs.declared.shape.Shape.{Shape}
 use Rattle.ioa_terms.specs.declared.callee.Callee.{Callee}
-use Rattle.ioa_terms.specs.PlainTerm.{PlainStatement, PlainStatements, PlainArms, assign, branch, loop, fire}
+use Rattle.ioa_terms.specs.PlainTerm.{PlainStatement, PlainStatements, PlainArms, assign, branch, loop, fire, choosing}
 use Rattle.ioa_terms.specs.PlainTerm.{no_statements, statement, no_arms, arm}
 use Rattle.ioa_system.specs.Parts.{PlainRule}
 
@@ -18,6 +18,7 @@ abbrev mutual
   IsNumbered rules (branch arms rest) = AreArmsNumbered rules arms × AreNumbered rules rest
   IsNumbered rules (loop t body) = AreNumbered rules body
   IsNumbered rules (fire f) = IsNumberOf rules f.action f.rule
+  IsNumbered rules (choosing c) = Unit {0}
 
   -- the same of each arm
   pub AreArmsNumbered : List PlainRule → PlainArms ℕ Callee Shape → Type 0

@@ -11,3 +11,4 @@ pub mod Assigned
 pub mod Negatives
 pub mod DefinedValues
 pub mod Statements
+pub mod Redone

@@ -15,9 +15,10 @@ use Rattle.ioa_operators.specs.declared.operator.BinaryOperator.{BinaryOperator}
 use Rattle.ioa_operators.specs.declared.shape.DisplayForm.{DisplayForm}
 use Rattle.ioa_terms.specs.contracts.tree.Kind as kind
 use Rattle.ioa_terms.specs.declared.tree.Kind.{Kind}
-use Rattle.ioa_terms.specs.PlainTerm.{PlainTerm, PlainTerms, PlainTarget, PlainStatement, PlainStatements, PlainArms, number, truth, name, one, two, call, display, field, no_terms, term, terms_of, variable, at_key, at_field, assign, branch, loop, fire, PlainFiring, firing, no_statements, statement, statements_of, no_arms, arm}
+use Rattle.ioa_terms.specs.PlainTerm.{PlainTerm, PlainTerms, PlainTarget, PlainStatement, PlainStatements, PlainArms, number, truth, name, one, two, call, display, field, no_terms, term, terms_of, variable, at_key, at_field, assign, branch, loop, fire, choosing, PlainFiring, firing, PlainChoice, choice_with, no_statements, statement, statements_of, no_arms, arm}
 use Rattle.ioa_terms.specs.SameNames.{same_name_is}
-use Rattle.ioa_terms.specs.SameTerms.{same_unary, same_binary, same_form, same_kind, same_term, same_terms, same_target, same_statement, same_statements, same_arms, same_firing}
+use Rattle.ioa_terms.specs.SameSorts.{same_sort_is}
+use Rattle.ioa_terms.specs.SameTerms.{same_unary, same_binary, same_form, same_kind, same_term, same_terms, same_target, same_statement, same_statements, same_arms, same_firing, same_choice}
 
 unary_is : (a b : UnaryOperator) → Decides (same_unary a b) (a ≡ b)
 unary_is a b = (same_true unary.the_type (search rules) a b, true_same unary.the_type a b)
@@ -137,6 +138,17 @@ module _ {N C D : Type 0} {n : N → N → Bool} {c : C → C → Bool} {d : D �
       (Decides-and _ _ (bytes_eq-Decides a.action b.action)
       (Decides-and _ _ (n_is a.rule b.rule) (same_terms_is a.arguments b.arguments))))
 
+  -- the test finds two choices the same if and only if they are equal
+  pub same_choice_is : (a b : PlainChoice N C D) → Decides (same_choice n c d a b) (a ≡ b)
+  same_choice_is a b =
+      Decides-like _ (λ p i. choice_with (p.0 i) (p.1.0 i) (p.1.1.0 i) (p.1.1.1.0 i) (p.1.1.1.1.0 i) (p.1.1.1.1.1 i))
+      (λ e. (ap (λ (f : PlainChoice N C D). f.target) e, (ap (λ (f : PlainChoice N C D). f.name) e, (ap (λ (f : PlainChoice N C D). f.sort) e, (ap (λ (f : PlainChoice N C D). f.shape) e, (ap (λ (f : PlainChoice N C D). f.condition) e, ap (λ (f : PlainChoice N C D). f.yields) e))))))
+      (Decides-and _ _ (target_equal a.target b.target, λ e. rw (← e) (target_itself a.target))
+      (Decides-and _ _ (bytes_eq-Decides a.name b.name)
+      (Decides-and _ _ (same_sort_is a.sort b.sort)
+      (Decides-and _ _ (d_is a.shape b.shape)
+      (Decides-and _ _ (same_term_is a.condition b.condition) (same_term_is a.yields b.yields))))))
+
   mutual
     statement_equal : (a b : PlainStatement N C D) → same_statement n c d a b ≡ true → a ≡ b
     statement_equal (assign x t) (assign y u) h =
@@ -149,6 +161,7 @@ module _ {N C D : Type 0} {n : N → N → Bool} {c : C → C → Bool} {d : D �
         let p = and_parts _ _ h in
         λ i. loop (term_equal t u p.0 i) (statements_equal ss ts p.1 i)
     statement_equal (fire f) (fire g) h = λ i. fire ((same_firing_is f g).0 h i)
+    statement_equal (choosing a) (choosing b) h = λ i. choosing ((same_choice_is a b).0 h i)
     statement_equal a b h = absurd (cc)
 
     statements_equal : (ss ts : PlainStatements N C D) → same_statements n c d ss ts ≡ true → ss ≡ ts
@@ -172,6 +185,7 @@ module _ {N C D : Type 0} {n : N → N → Bool} {c : C → C → Bool} {d : D �
     statement_itself (branch xs ss) = rw (arms_itself xs, statements_itself ss) refl
     statement_itself (loop t ss) = rw (term_itself t, statements_itself ss) refl
     statement_itself (fire f) = (same_firing_is f f).1 refl
+    statement_itself (choosing a) = (same_choice_is a a).1 refl
 
     statements_itself : (ss : PlainStatements N C D) → same_statements n c d ss ss ≡ true
     statements_itself no_statements = refl

@@ -18,7 +18,7 @@ use Rattle.ioa_terms.specs.declared.environment.Slot.{Slot}
 use Rattle.ioa_terms.specs.Slots.{index_within, slot_value}
 use Rattle.ioa_operators.specs.RangeCheck.{checked_result}
 use Rattle.ioa_terms.specs.declared.environment.View.{View}
-use Rattle.ioa_terms.specs.Views.{IsNamed, all_values, environment_of, names_in_view}
+use Rattle.ioa_terms.specs.Views.{IsNamed, all_names, all_values, environment_of, names_in_view}
 
 -- what is at the slot of a variable
 pub environment_variable : (names : List Name) (vs : List Data) (cs : List (List ℕ)) (i : ℕ) (d : Data) → i < length names → i < length vs → option_map (λ (b : Name × Data). b.1) (slice_get (environment names vs cs) i) ≡ Some (get_or vs i d)
@@ -153,7 +153,7 @@ names_environment names vs cs h = rw (map-append (λ (b : Name × Data). b.0) (z
 
 -- the value of a name in view is at its slot
 pub lookup_view : (v : View) (vs : List Data) (x : Name) (p : ℕ) → IsNamed v vs → slot_in x (names_in_view v) ≡ Some p → lookup x (environment_of v vs) ≡ option_map (λ (b : Name × Data). b.1) (slice_get (environment_of v vs) p)
-lookup_view v vs x p named h = lookup_slot (environment_of v vs) x p (ap (slot_in x) (names_environment v.names (all_values v vs) v.constants.now named) ∙ h)
+lookup_view v vs x p named h = lookup_slot (environment_of v vs) x p (ap (slot_in x) (names_environment (all_names v) (all_values v vs) v.constants.now named) ∙ h)
 
 -- what is found is checked alone
 pub found_there : (o : Option Slot) (d : Option Data) → option_map slot_value o ≡ d → IfSome o (λ s. checked_result d ≡ checked_result (Some (slot_value s)))
@@ -174,6 +174,11 @@ one_list names = ap (map Word) (append-nil names)
 
 pub readings_alone : (names : List Name) → names ++ [] ≡ names
 readings_alone names = append-nil names
+
+-- the slot of a variable is its slot among all names in view
+pub slot_among_all : (x : Name) (names more : List Name) (count at : ℕ) → slot_in x (take count names) ≡ Some at → slot_in x (names ++ more) ≡ Some at
+slot_among_all x names more count at h =
+    slot_among_more names more x at (subst (λ (ns : List Name). slot_in x ns ≡ Some at) (take-append-drop count names) (slot_among_more (take count names) (drop count names) x at h))
 
 -- a target is one too if there are more variables
 target_widely : {D : Type 0} (p : PlainTarget ℕ Callee D) (xs more names : List Name) → IsResolvedTarget p xs names → IsResolvedTarget p (xs ++ more) names

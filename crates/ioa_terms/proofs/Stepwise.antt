@@ -20,7 +20,7 @@ use Rattle.ioa_operators.specs.declared.shape.Shape.{Shape}
 use Rattle.ioa_operators.specs.declared.fault.TermFault.{TermFault}
 use Rattle.ioa_operators.specs.declared.fault.TermFault.TheVariants.{Undefined, Range}
 
-two_tests : {X : Type 0} (a b : Bool) (x y : X) → (if a && b then x else y) ≡ (if a then (if b then x else y) else y)
+pub two_tests : {X : Type 0} (a b : Bool) (x y : X) → (if a && b then x else y) ≡ (if a then (if b then x else y) else y)
 two_tests true b x y = refl
 two_tests false b x y = refl
 

@@ -24,6 +24,7 @@ pub mod Inboxes
 pub mod Slots
 pub mod Views
 pub mod Meaning
+pub mod Choices
 pub mod Performance
 pub mod Resolved
 pub mod Stepwise

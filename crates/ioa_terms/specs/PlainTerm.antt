@@ -8,6 +8,7 @@ use Rattle.ioa_operators.specs.declared.operator.BinaryOperator.{BinaryOperator}
 use Rattle.ioa_operators.specs.declared.shape.DisplayForm.{DisplayForm}
 use Rattle.ioa_terms.specs.declared.name.Name.{Name}
 use Rattle.ioa_terms.specs.declared.tree.Kind.{Kind}
+use Rattle.ioa_terms.specs.PlainSort.{PlainSort}
 
 mutual
   -- a term (profile): a number, a truth value, a name, an operator before a term or between two terms, a function of
@@ -52,6 +53,23 @@ pub record PlainFiring (N C D : Type 0) : Type 0 where
 abbrev pub firing : {N C D : Type 0} → Option Kind → List ℕ → N → List (PlainTerm N C D) → PlainFiring N C D
 firing k a r ts = record { kind = k; action = a; rule = r; arguments = ts }
 
+-- a value that an effect chooses (profile): what is assigned, the name that the value has in the condition, its sort, what
+-- has to be true of it, and what gives it if none is given. Beside the sort is an annotation: in a text nothing, in a
+-- checked system the shape of the value.
+pub record PlainChoice (N C D : Type 0) : Type 0 where
+  pub target : PlainTarget N C D
+  pub name : List ℕ
+  pub sort : PlainSort
+  pub shape : D
+  pub condition : PlainTerm N C D
+  pub yields : PlainTerm N C D
+  deriving IsSet as PlainChoice-set
+
+-- a choice of these parts
+abbrev pub choice_with : {N C D : Type 0} → PlainTarget N C D → List ℕ → PlainSort → D → PlainTerm N C D → PlainTerm N C D
+    → PlainChoice N C D
+choice_with p x s d t u = record { target = p; name = x; sort = s; shape = d; condition = t; yields = u }
+
 mutual
   -- a statement (profile): an assignment, or an `if` of arms and the rest; in a schedule block also a `while` of a test
   -- and its body, or a `fire`
@@ -60,6 +78,7 @@ mutual
     branch : PlainArms N C D → PlainStatements N C D → PlainStatement N C D
     loop : PlainTerm N C D → PlainStatements N C D → PlainStatement N C D
     fire : PlainFiring N C D → PlainStatement N C D
+    choosing : PlainChoice N C D → PlainStatement N C D
     deriving IsSet as PlainStatement-set
 
   -- statements one after another

@@ -1,5 +1,5 @@
 -- Terms and statements whose names are resolved (profile): each is annotated with the slot of its value.
-use Rattle.std.specs.Prelude.{◌≡◌, ℕ, true, List, Some, None}
+use Rattle.std.specs.Prelude.{◌≡◌, ◌∷◌, ℕ, true, List, Some, None}
 use Rattle.std.specs.List.{AllByRecursion}
 use Rattle.ioa_operators.specs.Operators.{function_named}
 use Rattle.ioa_terms.specs.declared.callee.Callee.{Callee}
@@ -12,8 +12,8 @@ use Rattle.ioa_terms.specs.Meaning.{is_inbox_word}
 use Rattle.ioa_terms.specs.PlainTerm as plain
 use Rattle.ioa_terms.specs.PlainTerm.{PlainTerm, PlainTerms, name, one, two, call, display, field, no_terms, term}
 use Rattle.ioa_terms.specs.PlainTerm.{PlainTarget, variable, at_key, at_field}
-use Rattle.ioa_terms.specs.PlainTerm.{PlainStatement, PlainStatements, PlainArms, assign, branch, loop, fire}
-use Rattle.ioa_terms.specs.PlainTerm.{PlainFiring}
+use Rattle.ioa_terms.specs.PlainTerm.{PlainStatement, PlainStatements, PlainArms, assign, branch, loop, fire, choosing}
+use Rattle.ioa_terms.specs.PlainTerm.{PlainFiring, PlainChoice}
 use Rattle.ioa_terms.specs.PlainTerm.{no_statements, statement, no_arms, arm}
 
 -- what a call is of (profile): the function of its name, or, if it is of `inbox`, the inboxes at their slot among the
@@ -51,6 +51,11 @@ IsResolvedTarget (at_field x at d f) variables names = slot_in (Word x) variable
 abbrev pub IsResolvedFiring : {D : Type 0} → PlainFiring ℕ Callee D → List Name → Type 0
 IsResolvedFiring f names = AllByRecursion (λ t. IsResolved t names) f.arguments
 
+-- the same of a choice: its condition reads the value too, under a name that stands in front
+abbrev pub IsResolvedChoice : {D : Type 0} → PlainChoice ℕ Callee D → List Name → List Name → Type 0
+IsResolvedChoice c variables names =
+    IsResolvedTarget c.target variables names × IsResolved c.condition (Word c.name ∷ names) × IsResolved c.yields names
+
 abbrev mutual
   -- the same of a statement: what it assigns are variables, and what it reads are names in view
   pub IsResolvedStatement : {D : Type 0} → PlainStatement ℕ Callee D → List Name → List Name → Type 0
@@ -59,6 +64,7 @@ abbrev mutual
       AreArmsResolved arms variables names × AreAllResolved rest variables names
   IsResolvedStatement (loop t body) variables names = IsResolved t names × AreAllResolved body variables names
   IsResolvedStatement (fire f) variables names = IsResolvedFiring f names
+  IsResolvedStatement (choosing c) variables names = IsResolvedChoice c variables names
 
   -- the same of each arm
   pub AreArmsResolved : {D : Type 0} → PlainArms ℕ Callee D → List Name → List Name → Type 0

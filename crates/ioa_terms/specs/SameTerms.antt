@@ -15,9 +15,10 @@ use Rattle.ioa_terms.specs.contracts.tree.Kind as kind
 use Rattle.ioa_terms.specs.declared.tree.Kind.{Kind}
 use Rattle.ioa_terms.specs.PlainTerm.{PlainTerm, PlainTerms, PlainTarget, PlainStatement, PlainStatements, PlainArms}
 use Rattle.ioa_terms.specs.PlainTerm.{number, truth, name, one, two, call, display, field, no_terms, term, terms_of}
-use Rattle.ioa_terms.specs.PlainTerm.{variable, at_key, at_field, assign, branch, loop, fire, PlainFiring}
+use Rattle.ioa_terms.specs.PlainTerm.{variable, at_key, at_field, assign, branch, loop, fire, choosing, PlainFiring, PlainChoice}
 use Rattle.ioa_terms.specs.PlainTerm.{no_statements, statement, no_arms, arm}
 use Rattle.ioa_terms.specs.Bindings.{same_word, same_name}
+use Rattle.ioa_terms.specs.SameSorts.{same_sort}
 
 abbrev pub same_unary : UnaryOperator → UnaryOperator → Bool
 same_unary = sameb unary.the_type
@@ -64,6 +65,14 @@ module _ {N C D : Type 0} (n : N → N → Bool) (c : C → C → Bool) (d : D �
       && (same_word a.action b.action
       && (n a.rule b.rule && same_terms (terms_of a.arguments) (terms_of b.arguments)))
 
+  -- and two choices
+  abbrev pub same_choice : PlainChoice N C D → PlainChoice N C D → Bool
+  same_choice a b =
+      same_target a.target b.target
+      && (same_word a.name b.name
+      && (same_sort a.sort b.sort
+      && (d a.shape b.shape && (same_term a.condition b.condition && same_term a.yields b.yields))))
+
   -- and two statements
   abbrev mutual
     pub same_statement : PlainStatement N C D → PlainStatement N C D → Bool
@@ -71,6 +80,7 @@ module _ {N C D : Type 0} (n : N → N → Bool) (c : C → C → Bool) (d : D �
     same_statement (branch xs ss) (branch ys ts) = same_arms xs ys && same_statements ss ts
     same_statement (loop t ss) (loop u ts) = same_term t u && same_statements ss ts
     same_statement (fire f) (fire g) = same_firing f g
+    same_statement (choosing a) (choosing b) = same_choice a b
     same_statement a b = false
 
     pub same_statements : PlainStatements N C D → PlainStatements N C D → Bool

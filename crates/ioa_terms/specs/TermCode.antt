@@ -10,9 +10,11 @@ use Rattle.ioa_operators.specs.contracts.shape.DisplayForm as form
 use Rattle.ioa_terms.specs.contracts.name.Name as called
 use Rattle.ioa_terms.specs.contracts.tree.Kind as kind
 use Rattle.ioa_terms.specs.declared.tree.Kind.{Kind}
+use Rattle.ioa_terms.specs.PlainSort.{PlainSort}
+use Rattle.ioa_terms.specs.SortCode.{sort_code}
 use Rattle.ioa_terms.specs.PlainTerm.{PlainTerm, PlainTerms, PlainTarget, PlainStatement, PlainStatements, PlainArms}
 use Rattle.ioa_terms.specs.PlainTerm.{number, truth, name, one, two, call, display, field, no_terms, term}
-use Rattle.ioa_terms.specs.PlainTerm.{variable, at_key, at_field, assign, branch, loop, fire, PlainFiring, firing}
+use Rattle.ioa_terms.specs.PlainTerm.{variable, at_key, at_field, assign, branch, loop, fire, choosing, PlainFiring, firing, PlainChoice, choice_with}
 use Rattle.ioa_terms.specs.PlainTerm.{no_statements, statement, no_arms, arm}
 
 abbrev word : Coded (List ℕ)
@@ -142,6 +144,15 @@ module _ {N C D : Type 0} (n : Coded N) (c : Coded C) (d : Coded D) where
       (λ t. firing t.0 t.1.0 t.1.1.0 t.1.1.1)
       (λ _. refl)
 
+  -- the code of a choice: a nest of pairs
+  abbrev pub choice_code : Coded (PlainChoice N C D)
+  choice_code =
+      code_by (PlainTarget N C D × (List ℕ × (PlainSort × (D × (PlainTerm N C D × PlainTerm N C D)))))
+      (coded× target_code (coded× word (coded× sort_code (coded× d (coded× term_code term_code)))))
+      (λ f. (f.target, (f.name, (f.sort, (f.shape, (f.condition, f.yields))))))
+      (λ t. choice_with t.0 t.1.0 t.1.1.0 t.1.1.1.0 t.1.1.1.1.0 t.1.1.1.1.1)
+      (λ _. refl)
+
   -- a statement as a tree
   mutual
     pub statement_stored : PlainStatement N C D → Gv
@@ -149,6 +160,7 @@ module _ {N C D : Type 0} (n : Coded N) (c : Coded C) (d : Coded D) where
     statement_stored (branch xs ss) = gcons (gnum 1) (gcons (arms_stored xs) (statements_stored ss))
     statement_stored (loop t ss) = gcons (gnum 2) (gcons (term_code.code t) (statements_stored ss))
     statement_stored (fire f) = gcons (gnum 3) (firing_code.code f)
+    statement_stored (choosing f) = gcons (gnum 4) (choice_code.code f)
 
     pub statements_stored : PlainStatements N C D → Gv
     statements_stored no_statements = gnil
@@ -181,6 +193,14 @@ module _ {N C D : Type 0} (n : Coded N) (c : Coded C) (d : Coded D) where
     statement_apart (fire f) (assign p t) e = other 3 0 _ _ refl e
     statement_apart (fire f) (branch xs ss) e = other 3 1 _ _ refl e
     statement_apart (fire f) (loop t ss) e = other 3 2 _ _ refl e
+    statement_apart (fire f) (choosing g) e = other 3 4 _ _ refl e
+    statement_apart (choosing f) (choosing g) e =
+        let p : choice_code.code f ≡ choice_code.code g = cc in
+        λ i. choosing (choice_code.inj f g p i)
+    statement_apart (choosing f) (assign p t) e = other 4 0 _ _ refl e
+    statement_apart (choosing f) (branch xs ss) e = other 4 1 _ _ refl e
+    statement_apart (choosing f) (loop t ss) e = other 4 2 _ _ refl e
+    statement_apart (choosing f) (fire g) e = other 4 3 _ _ refl e
     statement_apart a b e = absurd (cc)
 
     statements_apart : (ss ts : PlainStatements N C D) → statements_stored ss ≡ statements_stored ts → ss ≡ ts

@@ -9,10 +9,12 @@ use Rattle.ioa_terms.specs.declared.tree.Statement.TheOpen.{Statement-F, Arm-F}
 use Rattle.ioa_terms.specs.declared.tree.Arm.{Arm, fold-Arm}
 use Rattle.ioa_terms.specs.PlainTerm.{PlainTerm, number, truth, name, one, two, call, display, field, terms_of}
 use Rattle.ioa_terms.specs.PlainTerm.{PlainTarget, variable, at_key, at_field}
-use Rattle.ioa_terms.specs.PlainTerm.{PlainStatement, PlainStatements, assign, branch, loop, fire}
+use Rattle.ioa_terms.specs.PlainTerm.{PlainStatement, PlainStatements, assign, branch, loop, fire, choosing}
 use Rattle.ioa_terms.specs.PlainTerm.{statements_of, arms_of}
-use Rattle.ioa_terms.specs.PlainTerm.{PlainFiring, firing}
+use Rattle.ioa_terms.specs.PlainTerm.{PlainFiring, firing, PlainChoice, choice_with}
 use Rattle.ioa_terms.specs.declared.tree.Firing.{Firing}
+use Rattle.ioa_terms.specs.declared.tree.Choice.{Choice}
+use Rattle.ioa_terms.specs.SortView.{sort_of}
 
 abbrev pub view_step : {N C D : Type 0} → Tree-F N C D (PlainTerm N C D) → PlainTerm N C D
 view_step (Tree-F.Number n) = number n
@@ -38,12 +40,17 @@ target_of (target.Field w x d f) = at_field w x d f
 abbrev pub firing_of : {N C D : Type 0} → Firing N C D → PlainFiring N C D
 firing_of f = firing f.kind f.action f.rule (map term_of f.arguments.items)
 
+-- a choice
+abbrev pub choice_of : {N C D : Type 0} → Choice N C D → PlainChoice N C D
+choice_of c = choice_with (target_of c.target) c.name (sort_of c.sort) c.shape (term_of c.condition) (term_of c.yields)
+
 abbrev pub statement_step : {N C D : Type 0} →
     Statement-F N C D (PlainStatement N C D) (PlainTerm N C D × PlainStatements N C D) → PlainStatement N C D
 statement_step (Statement-F.Assign p t) = assign (target_of p) (term_of t)
 statement_step (Statement-F.If arms rest) = branch (arms_of arms.items) (statements_of rest.items)
 statement_step (Statement-F.While test body) = loop (term_of test) (statements_of body.items)
 statement_step (Statement-F.Fire f) = fire (firing_of f)
+statement_step (Statement-F.Choose c) = choosing (choice_of c.value)
 
 abbrev pub arm_step : {N C D : Type 0} →
     Arm-F N C D (PlainStatement N C D) (PlainTerm N C D × PlainStatements N C D)

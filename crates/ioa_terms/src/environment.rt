@@ -8,7 +8,7 @@ ghost use Rattle.ioa_terms.specs.Resolved.{IsResolved};
 ghost use Rattle.ioa_terms.specs.Slots.{index_within, slot_value};
 ghost use Rattle.ioa_terms.specs.Stepwise.{stepwise_answer};
 ghost use Rattle.ioa_terms.specs.View.{term_of};
-ghost use Rattle.ioa_terms.specs.Views.{IsNamed, environment_of, names_in_view};
+ghost use Rattle.ioa_terms.specs.Views.{IsNamed, all_names, environment_of, names_in_view};
 ghost use Rattle.ioa_values.specs.Data.{constant};
 
 use crate::name::Name;
@@ -129,6 +129,8 @@ impl<'a> LentValues<'a> {
 /// What terms and statements see besides the values that the statements may assign (profile). None of it is copied.
 #[derive(Drop)]
 pub struct View<'a> {
+    /// The name of a value that stands in front of the others, if there is one.
+    pub front: &'a [Word],
     /// The names of the values that statements may assign, and then those of the values that are lent.
     pub names: NameLists<'a>,
     /// What terms may read and no statement assigns.
@@ -146,11 +148,27 @@ impl<'a> View<'a> {
         ensures names { names_of result ≡ names_in_view self.now }
     {
         let view = View {
+            front: self.front,
             names: self.names.reborrow(),
             lent: self.lent,
             constants: self.constants,
         };
         Env { view, values }
+    }
+
+    /// The same view with the name of a value in front of the others.
+    pub(crate) fn behind<'b>(&'b self, front: &'b [Word]) -> View<'b>
+        requires { self.now.front.now ≡ [] }
+        ensures names { all_names result ≡ map Name.Word front.now ++ self.now.names }
+        ensures lent { result.lent ≡ self.now.lent }
+        ensures constants { result.constants.now ≡ self.now.constants.now }
+    {
+        View {
+            front,
+            names: self.names.reborrow(),
+            lent: self.lent,
+            constants: self.constants,
+        }
     }
 
     /// What is at a slot, if there is something.
@@ -229,6 +247,7 @@ impl<'a> Env<'a> {
     {
         Env {
             view: View {
+                front: &[],
                 names,
                 lent: LentValues::none(),
                 constants,

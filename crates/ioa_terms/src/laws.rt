@@ -1,6 +1,6 @@
 //! Laws of terms and statements: what functions ensure that do nothing.
 
-ghost use Rattle.std.specs.Prelude.{◌≡◌, ℕ, List, [], ◌∷◌, ◌++◌, Some, true, not, ◌&&◌, ◌||◌, if◌then◌else◌};
+ghost use Rattle.std.specs.Prelude.{◌≡◌, ℕ, List, [], ◌∷◌, ◌++◌, Some, Ok, true, not, ◌&&◌, ◌||◌, if◌then◌else◌};
 ghost use Rattle.std.specs.Option.{is_some, option_and_then, option_map};
 ghost use Rattle.ioa_values.specs.Data.{Data, items_of};
 ghost use Rattle.ioa_operators.specs.Operators.{unary_value, binary_value, call_value};
@@ -16,8 +16,10 @@ ghost use Rattle.ioa_terms.specs.Sorted.{NameShapes, HasShape, IsShaped, shape_i
 ghost use Rattle.ioa_terms.specs.Sorted.{UnaryIs, BinaryIs, FunctionIs, DisplayIs};
 ghost use Rattle.ioa_terms.specs.Undefined.{is_missing_key, is_empty_end, is_low_divisor};
 ghost use Rattle.ioa_terms.specs.Undefined.{has_negative, is_negative_tuple};
-ghost use Rattle.ioa_terms.specs.Performance.{after};
-ghost use Rattle.ioa_terms.specs.Ascending.{IsAscendingEnvironment};
+ghost use Rattle.ioa_terms.specs.Performance.{after, answer_by};
+ghost use Rattle.ioa_terms.specs.Choices.{Left, left, given, yielded};
+ghost use Rattle.ioa_values.specs.Outcome.{and_then};
+ghost use Rattle.ioa_terms.specs.Ascending.{IsAscendingEnvironment, IsAscendingLeft};
 ghost use Rattle.ioa_operators.specs.declared.operator.BinaryOperator.{BinaryOperator};
 ghost use Rattle.ioa_operators.specs.declared.operator.Function.{Function};
 ghost use Rattle.ioa_operators.specs.declared.operator.UnaryOperator.{UnaryOperator};
@@ -44,8 +46,8 @@ pub fn shapes_law()
 pub fn ascending_law()
     ensures terms { (e : Bindings) → IsAscendingEnvironment e →
         (t : PlainTerm ℕ Callee Shape) (v : Data) → value t e ≡ Some v → IsCanonical v }
-    ensures statements { (e : Bindings) → IsAscendingEnvironment e →
-        (ss : List (PlainStatement ℕ Callee Shape)) (f : Bindings) → after ss e ≡ Some f → IsAscendingEnvironment f }
+    ensures statements { (l : Left) → IsAscendingLeft l →
+        (ss : List (PlainStatement ℕ Callee Shape)) (m : Left) → after ss l ≡ Ok m → IsAscendingLeft m }
 {}
 
 /// An assignment changes the value of its name, if it has one, and that of no other name.
@@ -57,13 +59,16 @@ pub fn put_law()
 /// Statements apply in order: the later ones start from what the earlier ones leave. An assignment of a value that has
 /// the variable's shape gives the variable this value. No statement binds a new name.
 pub fn statements_law()
-    ensures order { (earlier later : List (PlainStatement ℕ Callee Shape)) (e : Bindings) →
-        after (earlier ++ later) e ≡ option_and_then (after later) (after earlier e) }
-    ensures assignment { (x : List ℕ) (at : ℕ) (s : PlainShape) (t : PlainTerm ℕ Callee Shape) (e : Bindings)
-        (v : Data) → value t e ≡ Some v → has_shape s v ≡ true →
-        after (assign (variable x at s) t ∷ []) e ≡ Some (put (Name.Word x) v e) }
-    ensures names { (ss : List (PlainStatement ℕ Callee Shape)) (e f : Bindings) →
-        after ss e ≡ Some f → names_of f ≡ names_of e }
+    ensures order { (earlier later : List (PlainStatement ℕ Callee Shape)) (l : Left) →
+        after (earlier ++ later) l ≡ and_then (after earlier l) (after later) }
+    ensures assignment { (x : List ℕ) (at : ℕ) (s : PlainShape) (t : PlainTerm ℕ Callee Shape) (l : Left)
+        (v : Data) → value t l.bindings ≡ Some v → has_shape s v ≡ true →
+        after (assign (variable x at s) t ∷ []) l ≡ Ok (left (put (Name.Word x) v l.bindings) l.source) }
+    ensures names { (ss : List (PlainStatement ℕ Callee Shape)) (l m : Left) →
+        after ss l ≡ Ok m → names_of m.bindings ≡ names_of l.bindings }
+    ensures again { (ss : List (PlainStatement ℕ Callee Shape)) (e : Bindings) (r : Left) →
+        answer_by ss (left e (yielded [])) ≡ Ok r → (vs : List Data) × (r.source ≡ yielded vs)
+        × (answer_by ss (left e (given vs)) ≡ Ok (left r.bindings (given []))) }
 {}
 
 /// An operator, a function, a display or a field has a value of values with the shapes that it takes,

@@ -9,6 +9,7 @@
 #![tactic(auto)]
 
 mod callee;
+mod choices;
 mod environment;
 mod evaluation;
 mod laws;
@@ -20,6 +21,7 @@ mod sort;
 mod tree;
 
 pub use callee::{Callee, is_inbox};
+pub use choices::{Choices, EffectFault};
 pub use environment::{Env, Inbox, LentValues, NameLists, Slot, View, inboxes_word};
 pub use evaluation::{eval, evaluate, evaluate_all, evaluate_each, evaluate_test};
 pub use ioa_operators::{
@@ -35,4 +37,4 @@ pub use same::{
     is_same_term,
 };
 pub use sort::Sort;
-pub use tree::{Arm, Checked, Firing, Kind, Statement, Target, Term, Tree};
+pub use tree::{Arm, Checked, Choice, Firing, Kind, Statement, Target, Term, Tree};

@@ -4,11 +4,11 @@ ghost use Rattle.std.specs.Prelude.{◌≡◌, ◌↔◌, ◌&&◌, IsTrue, map}
 ghost use Rattle.ioa_terms.specs.PlainTerm.{terms_of, statements_of, arms_of};
 ghost use Rattle.ioa_terms.specs.SameTerms.{same_term, same_terms, same_target};
 ghost use lib.Pointwise.{pointwise};
-ghost use Rattle.ioa_terms.specs.SameTerms.{same_statement, same_statements, same_arms, same_firing};
-ghost use Rattle.ioa_terms.specs.View.{term_of, target_of, statement_of, arm_of, firing_of};
+ghost use Rattle.ioa_terms.specs.SameTerms.{same_statement, same_statements, same_arms, same_firing, same_choice};
+ghost use Rattle.ioa_terms.specs.View.{term_of, target_of, statement_of, arm_of, firing_of, choice_of};
 
 use crate::callee::Callee;
-use crate::tree::{Arm, Firing, Statement, Target, Tree};
+use crate::tree::{Arm, Choice, Firing, Statement, Target, Tree};
 use ioa_operators::Shape;
 
 impl Tree<usize, Callee, Shape> {
@@ -100,6 +100,21 @@ fn is_same_target<N: PartialEq, C: PartialEq, D: PartialEq>(
     }
 }
 
+/// Whether two choices are the same, by the tests of their annotations.
+fn is_same_choice<N: PartialEq, C: PartialEq, D: PartialEq>(
+    choice: &Choice<N, C, D>,
+    other: &Choice<N, C, D>,
+) -> bool
+    ensures { result ≡ same_choice N.eq C.eq D.eq (choice_of choice.now) (choice_of other.now) }
+{
+    is_same_target(&choice.target, &other.target)
+        && (choice.name == other.name
+            && (choice.sort.is_same(&other.sort)
+                && (choice.shape == other.shape
+                    && (is_same_term(&choice.condition, &other.condition)
+                        && is_same_term(&choice.yields, &other.yields)))))
+}
+
 /// Whether two statements are the same, by the tests of their annotations.
 #[cycle(comparing_statements)]
 pub fn is_same_statement<N: PartialEq, C: PartialEq, D: PartialEq>(
@@ -119,6 +134,7 @@ pub fn is_same_statement<N: PartialEq, C: PartialEq, D: PartialEq>(
             is_same_term(t, u) && are_same_statements(ss, ts)
         }
         (Statement::Fire(f), Statement::Fire(g)) => is_same_firing(f, g),
+        (Statement::Choose(a), Statement::Choose(b)) => is_same_choice(a, b),
         _ => false,
     }
 }

@@ -2,6 +2,7 @@
 
 use crate::callee::Callee;
 use crate::name::Name;
+use crate::sort::Sort;
 use ioa_operators::{BinaryOperator, DisplayForm, Shape, UnaryOperator};
 use ioa_values::Word;
 
@@ -121,6 +122,36 @@ impl<N: Drop, C: Drop, D: Drop> Drop for Firing<N, C, D> {
     }
 }
 
+/// `p := choose x: S where t yield u`: a value that an effect chooses (profile). Only in an effect.
+pub struct Choice<N, C, D> {
+    /// What is assigned.
+    pub target: Target<N, C, D>,
+    /// The name that the value has in the condition.
+    pub name: Word,
+    /// The sort of the value, as spelled.
+    pub sort: Sort,
+    /// What is beside the sort: nothing in a text, the shape of the value in a checked tree.
+    pub shape: D,
+    /// What has to be true of the value.
+    pub condition: Tree<N, C, D>,
+    /// What gives the value if none is given.
+    pub yields: Tree<N, C, D>,
+}
+
+/// By hand, so that crates above do not prove again how the parts are let go (DECISIONS).
+impl<N: Drop, C: Drop, D: Drop> Drop for Choice<N, C, D> {
+    fn drop(self) {
+        let Choice {
+            target: _,
+            name: _,
+            sort: _,
+            shape: _,
+            condition: _,
+            yields: _,
+        } = self;
+    }
+}
+
 /// A statement of an effect or of a schedule block (profile). In an effect `while` and `fire` have no
 /// meaning: the grammar has no such effect.
 #[cycle(statement)]
@@ -133,6 +164,8 @@ pub enum Statement<N, C, D> {
     While(Tree<N, C, D>, Vec<Statement<N, C, D>>),
     /// `fire a(t, u)`. Only in a schedule block.
     Fire(Firing<N, C, D>),
+    /// `p := choose x: S where t yield u`. Only in an effect.
+    Choose(Box<Choice<N, C, D>>),
 }
 
 /// By hand, so that crates above do not prove again how the parts are let go (DECISIONS).
@@ -143,7 +176,8 @@ impl<N: Drop, C: Drop, D: Drop> Drop for Statement<N, C, D> {
             Statement::Assign(_, _)
             | Statement::If(_, _)
             | Statement::While(_, _)
-            | Statement::Fire(_) => {}
+            | Statement::Fire(_)
+            | Statement::Choose(_) => {}
         }
     }
 }

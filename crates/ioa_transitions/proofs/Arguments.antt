@@ -13,10 +13,11 @@ use Rattle.ioa_terms.specs.declared.name.Name.TheVariants.{Word}
 use Rattle.ioa_terms.specs.Bindings.{Bindings, same_word, environment, constants_from, lookup, names_of, slot_in}
 use Rattle.ioa_terms.proofs.Slots.{environment_variable, lookup_slot, names_environment}
 use Rattle.ioa_operators.specs.RangeCheck.{checked_result}
-use Rattle.ioa_operators.specs.declared.fault.TermFault.{TermFault}
 use Rattle.ioa_terms.specs.Inboxes.{lent_values}
 use Rattle.ioa_terms.specs.declared.environment.View.{View}
-use Rattle.ioa_terms.specs.Views.{IsNamed, all_values, environment_of}
+use Rattle.ioa_terms.specs.Views.{IsNamed, all_names, all_values, environment_of}
+use Rattle.ioa_terms.specs.Choices.{Source, Left, left}
+use Rattle.ioa_terms.specs.declared.choices.EffectFault.{EffectFault}
 use Rattle.ioa_actions.specs.declared.action.Action.{Action}
 use Rattle.ioa_actions.specs.ActionParts.{action_name, action_arguments}
 use Rattle.ioa_source.specs.PlainText.{const, named}
@@ -120,8 +121,8 @@ are_natural_end f (p ∷ ps) (v ∷ vs) zero h = absurd (omega arith)
 are_natural_end f (p ∷ ps) (v ∷ vs) (suc i) h = are_natural_end f ps vs i (omega arith)
 
 -- the first n values that an effect leaves
-pub effect_answer_environment : (n : ℕ) (names : List Name) (vs : List Data) (cs : List (List ℕ)) → length names ≡ length vs → n ≤ length vs → effect_answer n (Ok (environment names vs cs)) ≡ Ok (take n vs)
-effect_answer_environment n names vs cs many within =
+pub effect_answer_environment : (n : ℕ) (names : List Name) (vs : List Data) (cs : List (List ℕ)) → length names ≡ length vs → n ≤ length vs → (c : Source) → effect_answer n (Ok (left (environment names vs cs) c)) ≡ Ok (take n vs)
+effect_answer_environment n names vs cs many within c =
     let behind : List Data = map (λ (b : Name × Data). b.1) (constants_from 0 cs) in
     let split : map (λ (b : Name × Data). b.1) (environment names vs cs) ≡ vs ++ behind =
     map-append (λ (b : Name × Data). b.1) (zip names vs) (constants_from 0 cs)
@@ -188,11 +189,11 @@ pub condition_valued : (p : AutomatonParts) (own : List (List ℕ)) (given value
 condition_valued p own given values g h = condition_named p own given values g h ∙ ap length (sym (condition_values given values))
 
 -- the values that an effect leaves
-pub effect_answer_view : (v : View) (vs ws : List Data) (r : Result Bindings TermFault) → IsNamed v vs → length ws ≡ length vs → r ≡ Ok (environment_of v ws) → effect_answer (length vs) r ≡ Ok ws
-effect_answer_view v vs ws r valued kept e =
+pub effect_answer_view : (v : View) (vs ws : List Data) (r : Result Left EffectFault) (c : Source) → IsNamed v vs → length ws ≡ length vs → r ≡ Ok (left (environment_of v ws) c) → effect_answer (length vs) r ≡ Ok ws
+effect_answer_view v vs ws r c valued kept e =
     let lent = lent_values v.lent in
     let before = length-append vs lent in
     let many = length-append ws lent in
     ap (effect_answer (length vs)) e
-    ∙ effect_answer_environment (length vs) v.names (all_values v ws) v.constants.now (omega arith) (omega arith)
+    ∙ effect_answer_environment (length vs) (all_names v) (all_values v ws) v.constants.now (omega arith) (omega arith) c
     ∙ ap (λ (ds : List Data). Ok ds) (ap (λ k. take k (ws ++ lent)) (sym kept) ∙ take-append-le (length ws) ws lent (omega arith) ∙ take_all (length ws) ws (omega arith))

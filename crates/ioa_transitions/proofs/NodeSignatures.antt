@@ -12,6 +12,8 @@ use Rattle.ioa_values.proofs.Equality.{same_is}
 use Rattle.ioa_operators.specs.RangeCheck.{range_check}
 use Rattle.ioa_operators.specs.declared.fault.TermFault.{TermFault}
 use Rattle.ioa_operators.specs.declared.fault.TermFault.TheVariants as term
+use Rattle.ioa_terms.specs.Choices.{Lack, lacked, effect_check}
+use Rattle.ioa_terms.specs.declared.choices.EffectFault.TheVariants as effect
 use Rattle.ioa_terms.specs.Bindings.{Bindings, same_word}
 use Rattle.ioa_terms.specs.Meaning.{value, numbers_met, answer}
 use Rattle.ioa_terms.specs.declared.tree.Kind.{Kind}
@@ -56,6 +58,18 @@ range_check_parts ds o v h = range_check_by (list_all is_within ds) o v h
 
 pub range_check_within : {A : Type 0} (ds : List Data) (o : Option A) (v : A) → AreWithin ds → o ≡ Some v → range_check ds o ≡ Ok v
 range_check_within ds o v within is = ap (λ b. if b then ok_or o term.Undefined else Err term.Range) within ∙ ap (λ p. ok_or p term.Undefined) is
+
+-- the same of an effect
+effect_check_by : {A : Type 0} (b : Bool) (r : Result A Lack) (x : A) → (if b then lacked r else Err effect.Range) ≡ Ok x → (b ≡ true) × (r ≡ Ok x)
+effect_check_by true (Ok y) x h = (refl, cc)
+effect_check_by true (Err l) x h = absurd (cc)
+effect_check_by false r x h = absurd (cc)
+
+pub effect_check_parts : {A : Type 0} (ds : List Data) (r : Result A Lack) (x : A) → effect_check ds r ≡ Ok x → AreWithin ds × (r ≡ Ok x)
+effect_check_parts ds r x h = effect_check_by (list_all is_within ds) r x h
+
+pub effect_check_within : {A : Type 0} (ds : List Data) (r : Result A Lack) (x : A) → AreWithin ds → r ≡ Ok x → effect_check ds r ≡ Ok x
+effect_check_within ds r x within is = ap (λ b. if b then lacked r else Err effect.Range) within ∙ ap (λ p. lacked p) is
 
 -- words that the test finds to differ, differ
 words_differ : (x y : List ℕ) → not (same_word x y) ≡ true → x ≢ y

@@ -7,6 +7,9 @@ use Rattle.ioa_values.specs.DataOrder.{same}
 use Rattle.ioa_terms.specs.Bindings.{Bindings, same_word}
 use Rattle.ioa_terms.specs.Meaning.{answer}
 use Rattle.ioa_terms.specs.Performance.{answer_by}
+use Rattle.ioa_terms.specs.Choices.{Left, left, given}
+use Rattle.ioa_terms.specs.declared.choices.EffectFault.{EffectFault}
+use Rattle.ioa_terms.specs.declared.choices.EffectFault.TheVariants as effect
 use Rattle.ioa_terms.specs.declared.tree.Kind.{Kind}
 use Rattle.ioa_terms.specs.declared.tree.Kind.TheVariants.{Input, Output, Internal}
 use Rattle.ioa_actions.specs.ActionParts.{send_name, receive_name, action_name, action_arguments}
@@ -23,6 +26,7 @@ use Rattle.ioa_transitions.specs.NodeStep.{rule_bindings}
 use Rattle.ioa_actions.specs.StepFaults.{step_fault}
 use Rattle.ioa_actions.specs.declared.fault.StepFault.{StepFault}
 use Rattle.ioa_actions.specs.declared.fault.StepFault.TheVariants.{NotEnabled, NotMine, Undefined}
+use Rattle.ioa_actions.specs.declared.fault.StepFault.TheVariants as step
 
 -- whether an action's kind is that of an entry: a send is the output `send`, a receive the input `receive`, a local
 -- action another output or an internal action, a stimulus another input (profile)
@@ -95,32 +99,40 @@ abbrev pub guard_answer : Option CheckedTerm → Bindings → Result (Unit {0}) 
 guard_answer None e = Ok tt
 guard_answer (Some t) e = value_answer (answer t e)
 
+-- an effect's fault, as a step's
+abbrev pub effect_step_fault : EffectFault → StepFault
+effect_step_fault effect.Undefined = step.Undefined
+effect_step_fault effect.Range = step.Range
+effect_step_fault effect.Memory = step.Memory
+effect_step_fault effect.NoChoice = step.NoChoice
+
 -- the values of the state variables after an effect
-abbrev pub effect_answer : ℕ → Result Bindings TermFault → Result (List Data) StepFault
-effect_answer n (Ok e) = Ok (take n (map (λ b. b.1) e))
-effect_answer n (Err f) = Err (step_fault f)
+abbrev pub effect_answer : ℕ → Result Left EffectFault → Result (List Data) StepFault
+effect_answer n (Ok l) = Ok (take n (map (λ b. b.1) l.bindings))
+effect_answer n (Err f) = Err (effect_step_fault f)
 
 -- the result of a transition over n state variables: their new values, or the first fault of guard and effect
-abbrev pub transition_answer : ℕ → CheckedTransition → Bindings → Result (List Data) StepFault
-transition_answer n t b = and_then (guard_answer t.pre b) (λ _. effect_answer n (answer_by t.effect b))
+abbrev pub transition_answer : ℕ → CheckedTransition → Left → Result (List Data) StepFault
+transition_answer n t l = and_then (guard_answer t.pre l.bindings) (λ _. effect_answer n (answer_by t.effect l))
 
 -- the result of a rule for these arguments, over n state variables: the first fault of the arguments, of the entry's
 -- condition, which reads the first bindings, and of the guard and the effect, which read the second; or the new values
-abbrev pub step_answer : ℕ → PlainRule → List Data → Bindings → Bindings → Result (List Data) StepFault
-step_answer n r args e b =
+abbrev pub step_answer : ℕ → PlainRule → List Data → Bindings → Left → Result (List Data) StepFault
+step_answer n r args e l =
     and_then (naturals_answer r.entry.parameters args)
-    (λ _. and_then (guard_answer r.entry.condition e) (λ _. transition_answer n r.transition b))
+    (λ _. and_then (guard_answer r.entry.condition e) (λ _. transition_answer n r.transition l))
 
 -- the rule of an action at a node with this program: the first whose entry it is one of
 abbrev pub rule_for : Parts → Action → Option PlainRule
 rule_for p a = find (λ r. entry_agrees (given_bindings p.automaton p.arguments) a r.entry) p.automaton.rules
 
--- the values of a node's variables after an action, by the rule of that action
+-- the values of a node's variables after an action, by the rule of that action: no value is given to the choices of its
+-- effect
 abbrev pub rule_answer : NodeState → Action → Option PlainRule → Result (List Data) StepFault
 rule_answer c a None = Err NotMine
 rule_answer c a (Some r) =
     step_answer (length c.variables) r (action_arguments a)
-    (rule_bindings entry_condition r a c) (rule_bindings guard_or_effect r a c)
+    (rule_bindings entry_condition r a c) (left (rule_bindings guard_or_effect r a c) (given []))
 
 -- the values of a node's variables after an action, or why the action is no step
 abbrev pub values_answer : NodeState → Action → Result (List Data) StepFault

@@ -1,5 +1,5 @@
 -- Steps of a node's automaton, over numbers without bound (Lynch 8.1).
-use Rattle.std.specs.Prelude.{◌≡◌, ◌≢◌, ◌⊎◌, true, List, [], ◌∷◌, ◌++◌, map, Option, Some, None}
+use Rattle.std.specs.Prelude.{◌≡◌, ◌≢◌, ◌⊎◌, true, List, [], ◌∷◌, ◌++◌, map, Option, Some, None, Ok}
 use Rattle.std.specs.List.{AllZip, Contains, list_all}
 use Rattle.ioa_values.specs.Data.{Data, truth, is_within}
 use Rattle.ioa_operators.specs.Shapes.{has_shape, wide_shape}
@@ -8,6 +8,7 @@ use Rattle.ioa_terms.specs.declared.tree.Kind.{Kind}
 use Rattle.ioa_terms.specs.declared.tree.Kind.TheVariants.{Input, Output, Internal}
 use Rattle.ioa_terms.specs.Bindings.{Bindings, lookup}
 use Rattle.ioa_terms.specs.Meaning.{value, numbers_met}
+use Rattle.ioa_terms.specs.Choices.{left, given}
 use Rattle.ioa_terms.specs.Performance.{after, numbers_met_by}
 use Rattle.ioa_actions.specs.ActionParts.{send_name, receive_name, action_name, action_arguments}
 use Rattle.ioa_actions.specs.declared.action.Action.{Action}
@@ -80,16 +81,18 @@ GuardHolds (Some t) e = value t e ≡ Some (truth true)
 
 -- a step of a node from one configuration to another (Lynch 8.1): a rule of the program has the action, each argument
 -- is of its sort, the entry's condition and the guard hold, each state variable has by its name the value that the
--- effect leaves, and the program stays
+-- effect leaves, which chooses nothing, and the program stays
 pub record IsNodeStep (a : Action) (c d : NodeState) : Type 0 where
   pub rule : PlainRule
   pub mine : HasRule c.program a rule
   pub sorts : AllZip IsOfSort rule.entry.parameters (action_arguments a)
   pub condition : GuardHolds rule.entry.condition (rule_bindings entry_condition rule a c)
   pub guard : GuardHolds rule.transition.pre (rule_bindings guard_or_effect rule a c)
-  pub left : Bindings
-  pub effect : after rule.transition.effect (rule_bindings guard_or_effect rule a c) ≡ Some left
-  pub variables : map (λ x. lookup (Word x) left) (variable_names c.program.automaton.variables) ≡ map Some d.variables
+  pub reached : Bindings
+  pub effect : after rule.transition.effect (left (rule_bindings guard_or_effect rule a c) (given []))
+      ≡ Ok (left reached (given []))
+  pub variables : map (λ x. lookup (Word x) reached) (variable_names c.program.automaton.variables)
+      ≡ map Some d.variables
   pub program : d.program ≡ c.program
 
 -- the results that a parameter meets, if constants read these bindings
@@ -114,7 +117,7 @@ numbers_met_by_rule r a c =
     numbers_met_by_parameters (given_bindings c.program.automaton c.program.arguments) r.entry.parameters
     ++ (numbers_met_by_guard r.entry.condition (rule_bindings entry_condition r a c)
     ++ (numbers_met_by_guard r.transition.pre (rule_bindings guard_or_effect r a c)
-    ++ numbers_met_by r.transition.effect (rule_bindings guard_or_effect r a c)))
+    ++ numbers_met_by r.transition.effect (left (rule_bindings guard_or_effect r a c) (given []))))
 
 -- every number that a rule of an action meets lies within 64 bits (profile)
 abbrev pub FitsNodeStep : Action → NodeState → Type 0

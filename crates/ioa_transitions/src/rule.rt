@@ -18,6 +18,7 @@ ghost use Rattle.ioa_transitions.specs.NodeAnswers as spec;
 ghost use Rattle.ioa_transitions.specs.NodeStep.{own_value, own_values};
 ghost use Rattle.ioa_terms.specs.Meaning.{answer};
 ghost use Rattle.ioa_terms.specs.Performance.{answer_by};
+ghost use Rattle.ioa_terms.specs.Choices.{left, given};
 ghost use Rattle.ioa_terms.specs.Resolved.{AreResolved, IsResolved};
 ghost use Rattle.ioa_terms.specs.Bindings.{lookup, same_word, slot_in};
 ghost use Rattle.ioa_operators.specs.RangeCheck.{checked_result};
@@ -28,8 +29,8 @@ use ioa_copies::copy_values;
 use ioa_source::{Entry, Parameter};
 use ioa_system::{Program, Rule};
 use ioa_terms::{
-    Callee, Checked, Kind, LentValues, Name, Shape, TermFault, Value, View, Word, eval, evaluate,
-    evaluate_test, perform,
+    Callee, Checked, Choices, EffectFault, Kind, LentValues, Name, Shape, TermFault, Value, View,
+    Word, eval, evaluate, evaluate_test, perform,
 };
 use ioa_values::ValueForm;
 use std::alloc::{AllocError, Global};
@@ -533,8 +534,8 @@ fn take_transition(
         (spec.step_answer (length variables.now) rule.now arguments.now
         (environment_at entry_condition (declared_names program.now.automaton) rule.now.own
         program.now.arguments variables.now (own_values rule.now.entry.parameters arguments.now))
-        (environment_at guard_or_effect (declared_names program.now.automaton) rule.now.own
-        program.now.arguments variables.now (own_values rule.now.entry.parameters arguments.now))) }
+        (left (environment_at guard_or_effect (declared_names program.now.automaton) rule.now.own
+        program.now.arguments variables.now (own_values rule.now.entry.parameters arguments.now)) (given []))) }
     ensures valued { OnOk result (length values.new.items ≡ length variables.now) }
     ensures kept { length values.old.items ≡ length variables.now → length values.new.items ≡ length variables.now }
 {
@@ -564,8 +565,8 @@ fn pass_copies(
         (environment_at entry_condition (declared_names program.now.automaton) rule.now.own
         program.now.arguments [] (own_values rule.now.entry.parameters arguments.now)))
         (λ _. spec.transition_answer (length variables.now) rule.now.transition
-        (environment_at guard_or_effect (declared_names program.now.automaton) rule.now.own
-        program.now.arguments variables.now (own_values rule.now.entry.parameters arguments.now)))) }
+        (left (environment_at guard_or_effect (declared_names program.now.automaton) rule.now.own
+        program.now.arguments variables.now (own_values rule.now.entry.parameters arguments.now)) (given [])))) }
     ensures valued { OnOk result (length values.new.items ≡ length variables.now) }
     ensures kept { length values.old.items ≡ length variables.now → length values.new.items ≡ length variables.now }
 {
@@ -592,8 +593,8 @@ fn pass_own(
         (environment_at entry_condition (declared_names program.now.automaton) rule.now.own
         program.now.arguments [] own.now))
         (λ _. spec.transition_answer (length variables.now) rule.now.transition
-        (environment_at guard_or_effect (declared_names program.now.automaton) rule.now.own
-        program.now.arguments variables.now own.now))) }
+        (left (environment_at guard_or_effect (declared_names program.now.automaton) rule.now.own
+        program.now.arguments variables.now own.now) (given [])))) }
     ensures valued { OnOk result (length values.new.items ≡ length variables.now) }
     ensures kept { length values.old.items ≡ length variables.now → length values.new.items ≡ length variables.now }
 {
@@ -641,6 +642,7 @@ fn condition_view<'a>(program: &'a Program, rule: &'a Rule, own: &'a [Value]) ->
 {
     let automaton = program.automaton();
     View {
+        front: &[],
         names: automaton.condition_names(rule),
         lent: LentValues {
             inboxes: None,
@@ -667,8 +669,8 @@ fn pass_step(
     requires own { length rule.now.own ≡ length own.now }
     ensures after { Answers StepFault.Memory (λ _. values.new.items) result
         (spec.transition_answer (length variables.now) rule.now.transition
-        (environment_at guard_or_effect (declared_names program.now.automaton) rule.now.own
-        program.now.arguments variables.now own.now)) }
+        (left (environment_at guard_or_effect (declared_names program.now.automaton) rule.now.own
+        program.now.arguments variables.now own.now) (given []))) }
     ensures valued { OnOk result (length values.new.items ≡ length variables.now) }
     ensures kept { length values.old.items ≡ length variables.now → length values.new.items ≡ length variables.now }
 {
@@ -689,6 +691,7 @@ fn step_view<'a>(
     requires valued { length variables.now ≡ length program.now.automaton.variables }
     requires own { length rule.now.own ≡ length own.now }
     ensures named { IsNamed result variables.now }
+    ensures front { result.front.now ≡ [] }
     ensures own { own_names result (length variables.now)
         ≡ map Name.Word (variable_names program.now.automaton.variables) }
     ensures names { names_in_view result
@@ -699,6 +702,7 @@ fn step_view<'a>(
 {
     let automaton = program.automaton();
     View {
+        front: &[],
         names: automaton.step_names(rule),
         lent: LentValues {
             inboxes: None,
@@ -710,7 +714,7 @@ fn step_view<'a>(
 }
 
 /// Puts the values of the state variables after a rule's effect into a list, in place of what is there. The effect is
-/// performed on a copy of them.
+/// performed on a copy of them. No value is given to its choices.
 #[inline(always)]
 #[tactic(auto, using(crate::proofs::Arguments::effect_answer_view))]
 fn take_effect(
@@ -723,14 +727,30 @@ fn take_effect(
     requires resolved { AreResolved rule.now.transition.effect (own_names view.now (length variables.now))
         (names_in_view view.now) }
     requires named { IsNamed view.now variables.now }
+    requires front { view.now.front.now ≡ [] }
     ensures after { Answers StepFault.Memory (λ _. values.new.items) result (spec.effect_answer (length variables.now)
-        (answer_by rule.now.transition.effect (environment_of view.now variables.now))) }
+        (answer_by rule.now.transition.effect (left (environment_of view.now variables.now) (given [])))) }
     ensures valued { OnOk result (length values.new.items ≡ length variables.now) }
     ensures kept { length values.old.items ≡ length variables.now → length values.new.items ≡ length variables.now }
 {
     copy_values(alloc, variables, values)?;
-    perform(alloc, &rule.transition.effect, view, values)?;
-    Ok(())
+    let mut choices = Choices::Given(&[]);
+    match perform(alloc, &rule.transition.effect, view, values, &mut choices) {
+        Ok(()) => Ok(()),
+        Err(fault) => Err(step_fault(fault)),
+    }
+}
+
+/// An effect's fault, as a step's.
+fn step_fault(fault: EffectFault) -> StepFault
+    ensures { result ≡ spec.effect_step_fault fault }
+{
+    match fault {
+        EffectFault::Undefined => StepFault::Undefined,
+        EffectFault::Range => StepFault::Range,
+        EffectFault::Memory => StepFault::Memory,
+        EffectFault::NoChoice => StepFault::NoChoice,
+    }
 }
 
 /// The arguments that have names of their own, if they stand side by side.

@@ -12,8 +12,8 @@ use Rattle.ioa_operators.proofs.Holding.{and_then_holds, map_holds, map_holds_an
 use Rattle.ioa_terms.specs.declared.callee.Callee.{Callee}
 use Rattle.ioa_terms.specs.Bindings.{Bindings}
 use Rattle.ioa_terms.specs.Meaning.{values}
-use Rattle.ioa_terms.specs.Performance.{after_one, by_test, test_value}
-use Rattle.ioa_terms.specs.PlainTerm.{PlainStatement, PlainStatements, PlainArms, assign, branch, loop, fire, no_statements, statement, no_arms, arm, terms_of}
+use Rattle.ioa_terms.specs.Performance.{assigned, by_test, test_value}
+use Rattle.ioa_terms.specs.PlainTerm.{PlainStatement, PlainStatements, PlainArms, assign, branch, loop, fire, choosing, no_statements, statement, no_arms, arm, terms_of}
 use Rattle.ioa_system.specs.Numbered.{IsNumbered, AreArmsNumbered, AreNumbered}
 use Rattle.ioa_system.specs.Parts.{PlainRule}
 use Rattle.ioa_schedules.specs.Turns.{TurnResult, turn_result, fires, joined_statements, following_statements, choice, after_step, numbers_met_by_turn, turn, turn_answer}
@@ -49,7 +49,7 @@ module _ (rules : List PlainRule) where
   IsLeftNumbered p = AreNumbered rules p.0
 
   step_numbered : (s : PlainStatement ℕ Callee Shape) (rest : PlainStatements ℕ Callee Shape) (e : Bindings) → IsNumbered rules s → AreNumbered rules rest → IfSome (after_step s rest e) IsLeftNumbered
-  step_numbered (assign p t) rest e h g = map_holds_any IsLeftNumbered (λ d. (rest, d)) (after_one (assign p t) e) (λ d. g)
+  step_numbered (assign p t) rest e h g = map_holds_any IsLeftNumbered (λ d. (rest, d)) (assigned p t e) (λ d. g)
   step_numbered (branch arms others) rest e h g =
       map_holds (AreNumbered rules) IsLeftNumbered (λ body. (joined_statements body rest, e)) (choice arms others e) (choice_numbered arms others e h.0 h.1)
       (λ body k. joined_numbered body rest k g)
@@ -57,6 +57,7 @@ module _ (rules : List PlainRule) where
       tested (λ (o : Option (PlainStatements ℕ Callee Shape × Bindings)). IfSome o IsLeftNumbered) (test_value t e) None (Some (joined_statements body (statement (loop t body) rest), e)) (Some (rest, e))
       tt (joined_numbered body (statement (loop t body) rest) h (h, g)) g
   step_numbered (fire f) rest e h g = tt
+  step_numbered (choosing c) rest e h g = tt
 
   -- a turn
   abbrev IsTurnNumbered : TurnResult → Type 0
@@ -69,12 +70,14 @@ module _ (rules : List PlainRule) where
   turn_kept (statement (assign p t) rest) zero e h = h
   turn_kept (statement (branch arms others) rest) zero e h = h
   turn_kept (statement (loop t body) rest) zero e h = h
+  turn_kept (statement (choosing c) rest) zero e h = h
   turn_kept (statement (assign p t) rest) (suc n) e h =
       and_then_holds IsLeftNumbered IsTurnNumbered (λ p. turn p.0 n p.1) (after_step (assign p t) rest e) (step_numbered (assign p t) rest e h.0 h.1) (λ p k. turn_kept p.0 n p.1 k)
   turn_kept (statement (branch arms others) rest) (suc n) e h =
       and_then_holds IsLeftNumbered IsTurnNumbered (λ p. turn p.0 n p.1) (after_step (branch arms others) rest e) (step_numbered (branch arms others) rest e h.0 h.1) (λ p k. turn_kept p.0 n p.1 k)
   turn_kept (statement (loop t body) rest) (suc n) e h =
       and_then_holds IsLeftNumbered IsTurnNumbered (λ p. turn p.0 n p.1) (after_step (loop t body) rest e) (step_numbered (loop t body) rest e h.0 h.1) (λ p k. turn_kept p.0 n p.1 k)
+  turn_kept (statement (choosing c) rest) (suc n) e h = tt
 
   -- where a turn ends
   todo_left : (next : PlainStatements ℕ Callee Shape) (d : Bindings) (vs : List Data) (t : Turn) → (turn_of next d vs t).todo ≡ next

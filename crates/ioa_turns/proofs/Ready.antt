@@ -1,5 +1,5 @@
 -- A block that can go on sees what it needs, and what its turn leaves.
-use Rattle.std.proofs.Common.{◌≡◌, ℕ, ◌+◌, List, ◌++◌, Option, Some, None, Result, Ok, Err, map, take, length, length-append, append_assoc, refl, sym, ap, subst, ◌∙◌, arith}
+use Rattle.std.proofs.Common.{◌≡◌, ℕ, ◌+◌, List, [], ◌++◌, Option, Some, None, Result, Ok, Err, map, take, length, length-append, append_assoc, refl, sym, ap, subst, ◌∙◌, arith}
 use Rattle.std.proofs.Math.Seq.{take-append_seam}
 use Rattle.std.proofs.lemmas.List.{length-map, map-append, take-append-le}
 use Rattle.std.proofs.lemmas.Slice.Zip.{seconds-zip}
@@ -18,7 +18,7 @@ use Rattle.ioa_terms.specs.declared.name.Name.{Name}
 use Rattle.ioa_terms.specs.declared.name.Name.TheVariants.{Word}
 use Rattle.ioa_terms.proofs.Performed.{all_resolved}
 use Rattle.ioa_schedules.specs.Turns.{turn_answer, turn_limit, following_statements}
-use Rattle.ioa_terms.specs.Views.{IsNamed, environment_of}
+use Rattle.ioa_terms.specs.Views.{IsNamed, all_names, environment_of}
 use Rattle.ioa_schedules.specs.Views.{AreResolvedIn, turn_of}
 use Rattle.ioa_schedules.specs.declared.turn.Turn.{Turn}
 use Rattle.ioa_schedules.specs.declared.turn.Turn.TheVariants as turn
@@ -56,6 +56,7 @@ following_ready p (statement s rest) own h = record { valued = h.valued; resolve
 
 -- what a block of a program sees, if it sees these inboxes, and these are the values of the state variables
 pub record Sees (p : Parts) (seen : Option PlainInboxes) (variables : List Data) (v : View) : Type 0 where
+  pub front : v.front.now ≡ []
   pub names : v.names ≡ map Word (scope_at block_statement (declared_names p.automaton) (block_own_names p.automaton))
   pub inboxes : option_map (λ is. inboxes_of is.now) v.lent.inboxes ≡ seen
   pub first : v.lent.first.now ≡ variables
@@ -106,21 +107,21 @@ four_long xs os ys zs us is vs ws h n k l =
 
 module _ (p : Parts) (seen : Option PlainInboxes) (variables : List Data) (v : View) (sees : Sees p seen variables v) where
   -- the names to which it may assign, and those that it may read
-  own_seen : (n : ℕ) → n ≡ length p.automaton.schedule.variables → take n v.names ≡ map Word (variable_names p.automaton.schedule.variables)
+  own_seen : (n : ℕ) → n ≡ length p.automaton.schedule.variables → take n (all_names v) ≡ map Word (variable_names p.automaton.schedule.variables)
   own_seen n h =
       let own = variable_names p.automaton.schedule.variables in
       let inboxes = inbox_words (message_shape p.automaton.rules) in
       let others = variable_names p.automaton.variables ++ parameter_names p.automaton.parameters in
-      rw (sees.names, append_assoc own inboxes others)
+      rw (sees.front, sees.names, append_assoc own inboxes others)
       (own_first Word n own (inboxes ++ others) (h ∙ sym (length-map p.automaton.schedule.variables (λ (x : CheckedVariable). x.declared.name))))
 
-  all_seen : v.names ++ map Word v.constants.now ≡ names_at block_statement (declared_names p.automaton) (block_own_names p.automaton)
-  all_seen = rw (sees.names, sees.constants) refl
+  all_seen : all_names v ++ map Word v.constants.now ≡ names_at block_statement (declared_names p.automaton) (block_own_names p.automaton)
+  all_seen = rw (sees.front, sees.names, sees.constants) refl
 
   -- each value in view has a name
   pub sees_named : (values : List Data) → length values ≡ length p.automaton.schedule.variables → is_some seen ≡ is_some (message_shape p.automaton.rules) → length variables ≡ length p.automaton.variables → length p.arguments ≡ length p.automaton.parameters → IsNamed v values
   sees_named values h m k l =
-      rw (sees.names, length-map (scope_at block_statement (declared_names p.automaton) (block_own_names p.automaton)) Word, sees.inboxes, sees.first, sees.second)
+      rw (sees.front, sees.names, length-map (scope_at block_statement (declared_names p.automaton) (block_own_names p.automaton)) Word, sees.inboxes, sees.first, sees.second)
       (four_long (variable_names p.automaton.schedule.variables) (inbox_words (message_shape p.automaton.rules)) (variable_names p.automaton.variables) (parameter_names p.automaton.parameters) values (inbox_values seen) variables p.arguments
       (length-map p.automaton.schedule.variables (λ (x : CheckedVariable). x.declared.name) ∙ sym h) (as_many seen (message_shape p.automaton.rules) m) (length-map p.automaton.variables (λ (x : CheckedVariable). x.declared.name) ∙ sym k) (length-map p.automaton.parameters (λ (d : CheckedDeclared). d.name) ∙ sym l))
 
@@ -139,7 +140,7 @@ module _ (p : Parts) (seen : Option PlainInboxes) (variables : List Data) (v : V
   -- its terms are evaluated over the bindings of a block
   pub sees_bindings : (values : List Data) → environment_of v values ≡ block_bindings p.automaton p.arguments variables (inbox_values seen) values
   sees_bindings values =
-      rw (sees.names, sees.inboxes, sees.first, sees.second, sees.constants, append_assoc values (inbox_values seen) (variables ++ p.arguments)) refl
+      rw (sees.front, sees.names, sees.inboxes, sees.first, sees.second, sees.constants, append_assoc values (inbox_values seen) (variables ++ p.arguments)) refl
 
 -- where a turn leaves a node
 reached_by : (p : PlainProgress) (todo : PlainStatements ℕ Callee Shape) (e : Bindings) (vs : List Data) (t : Turn) → reached p (Ok (turn_of todo e vs t)) ≡ Ok (end_of vs t, record p { todo = todo; own = own_values (length p.own) e })
@@ -155,7 +156,7 @@ module _ (p : PlainProgress) (seen : Option PlainInboxes) (variables : List Data
       ∙ ap (λ (r : Result _ TermFault). reached p r) h
       ∙ reached_by p todo (environment_of v values) vs t
       ∙ ap (λ (ds : List Data). Ok (end_of vs t, record p { todo = todo; own = ds }))
-      (rw (← same) (own_of v.names (values ++ lent_values v.lent) v.constants.now values (lent_values v.lent) refl named))
+      (rw (← same) (own_of (all_names v) (values ++ lent_values v.lent) v.constants.now values (lent_values v.lent) refl named))
 
   pub turn_missed : (f : TermFault) → turn_answer p.todo turn_limit (environment_of v p.own) ≡ Err f → block_turn p seen variables ≡ reached p (Err f)
   turn_missed f h =

@@ -5,7 +5,7 @@ use Rattle.ioa_actions.specs.declared.fault.StepFault.TheVariants as step
 use Rattle.ioa_commits.specs.declared.outcome.CommitRefusal.{CommitRefusal}
 use Rattle.ioa_commits.specs.declared.outcome.CommitRefusal.TheVariants as refusal
 use Rattle.ioa_record.specs.declared.ending.NodeFault.{NodeFault}
-use Rattle.ioa_record.specs.declared.ending.NodeFault.TheVariants.{Undefined, Range, Memory, NotMine, NoChannel}
+use Rattle.ioa_record.specs.declared.ending.NodeFault.TheVariants.{Undefined, Range, Memory, NotMine, NoChannel, NoChoice}
 use Rattle.ioa_record.specs.declared.ending.NodeFault.TheVariants.{Differs, Full, Unknown}
 
 -- the fault with which a fault of a step ends its node: an action that is not enabled is missed, and ends none
@@ -16,6 +16,7 @@ fault_of_step step.Range = Some Range
 fault_of_step step.Memory = Some Memory
 fault_of_step step.NotMine = Some NotMine
 fault_of_step step.NoChannel = Some NoChannel
+fault_of_step step.NoChoice = Some NoChoice
 
 -- the fault with which the refusal of a proposal ends its node: a stale one is fired anew, and ends none
 abbrev pub fault_of_refusal : CommitRefusal → Option NodeFault

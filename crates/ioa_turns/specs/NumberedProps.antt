@@ -3,7 +3,7 @@ use Rattle.std.specs.Prelude.{ℕ, List}
 use Rattle.std.proofs.Props.{props}
 use Rattle.ioa_operators.specs.declared.shape.Shape.{Shape}
 use Rattle.ioa_terms.specs.declared.callee.Callee.{Callee}
-use Rattle.ioa_terms.specs.PlainTerm.{PlainStatement, PlainStatements, PlainArms, assign, branch, loop, fire}
+use Rattle.ioa_terms.specs.PlainTerm.{PlainStatement, PlainStatements, PlainArms, assign, branch, loop, fire, choosing}
 use Rattle.ioa_terms.specs.PlainTerm.{no_statements, statement, no_arms, arm}
 use Rattle.ioa_system.specs.Numbered.{IsNumbered, AreArmsNumbered, AreNumbered}
 use Rattle.ioa_system.specs.Parts.{PlainRule}
@@ -15,6 +15,7 @@ mutual
   IsNumbered-prop rules (branch arms rest) = hlevel (AreArmsNumbered-prop rules arms, AreNumbered-prop rules rest)
   IsNumbered-prop rules (loop t body) = AreNumbered-prop rules body
   IsNumbered-prop rules (fire f) = hlevel props
+  IsNumbered-prop rules (choosing c) = hlevel props
 
   -- arms
   AreArmsNumbered-prop : (rules : List PlainRule) (arms : PlainArms ℕ Callee Shape)

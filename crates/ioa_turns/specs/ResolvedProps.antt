@@ -7,11 +7,12 @@ use Rattle.ioa_terms.specs.declared.callee.Callee.{Callee}
 use Rattle.ioa_terms.specs.PlainTerm as plain
 use Rattle.ioa_terms.specs.PlainTerm.{PlainTerm, PlainTerms, name, one, two, call, display, field, no_terms, term}
 use Rattle.ioa_terms.specs.PlainTerm.{PlainTarget, variable, at_key, at_field}
-use Rattle.ioa_terms.specs.PlainTerm.{PlainStatement, PlainStatements, PlainArms, assign, branch, loop, fire}
+use Rattle.ioa_terms.specs.PlainTerm.{PlainStatement, PlainStatements, PlainArms, assign, branch, loop, fire, choosing}
 use Rattle.ioa_terms.specs.PlainTerm.{no_statements, statement, no_arms, arm}
 use Rattle.ioa_terms.specs.Resolved.{IsCallee, IsResolved, AreTermsResolved, IsResolvedTarget}
 use Rattle.ioa_terms.specs.Resolved.{IsResolvedStatement, AreArmsResolved, AreAllResolved}
 use Rattle.ioa_terms.specs.declared.name.Name.{Name}
+use Rattle.ioa_terms.specs.declared.name.Name.TheVariants.{Word}
 use Rattle.ioa_terms.specs.declared.callee.Callee.TheVariants.{Function, Inboxes}
 
 -- what a call is of
@@ -54,6 +55,11 @@ mutual
   IsResolvedStatement-prop (branch arms rest) variables names = hlevel (AreArmsResolved-prop arms variables names, AreAllResolved-prop rest variables names)
   IsResolvedStatement-prop (loop t body) variables names = hlevel (IsResolved-prop t names, AreAllResolved-prop body variables names)
   IsResolvedStatement-prop (fire f) variables names = AllResolved-prop f.arguments names
+  IsResolvedStatement-prop (choosing c) variables names = hlevel (
+    IsResolvedTarget-prop c.target variables names,
+    IsResolved-prop c.condition (Word c.name ∷ names),
+    IsResolved-prop c.yields names,
+  )
 
   -- arms
   AreArmsResolved-prop : (arms : PlainArms ℕ Callee Shape) (variables names : List Name) → IsProp (AreArmsResolved arms variables names)

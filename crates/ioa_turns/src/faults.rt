@@ -18,6 +18,7 @@ pub fn fault_of_step(fault: StepFault) -> Option<NodeFault>
         StepFault::Memory => Some(NodeFault::Memory),
         StepFault::NotMine => Some(NodeFault::NotMine),
         StepFault::NoChannel => Some(NodeFault::NoChannel),
+        StepFault::NoChoice => Some(NodeFault::NoChoice),
     }
 }
 

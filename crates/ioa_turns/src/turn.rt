@@ -1,6 +1,6 @@
 //! The turns of a node.
 
-ghost use Rattle.std.specs.Prelude.{◌≡◌, IfOk, IfSome, OnErr, OnOk, Some, is_some, length, map, true};
+ghost use Rattle.std.specs.Prelude.{◌≡◌, [], IfOk, IfSome, OnErr, OnOk, Some, is_some, length, map, true};
 ghost use Rattle.std.specs.Option.{option_copied, option_map};
 ghost use Rattle.ioa_compose.specs.Composition as conf;
 ghost use Rattle.ioa_values.specs.Outcome.{Answers};
@@ -34,6 +34,7 @@ pub(crate) fn view_of<'a>(
     conf: &'a NodeConf,
 ) -> View<'a>
     requires { length conf.now.variables ≡ length program.now.automaton.variables }
+    ensures front { result.front.now ≡ [] }
     ensures names { result.names ≡ map Name.Word
         (scope_at block_statement (declared_names program.now.automaton) (block_own_names program.now.automaton)) }
     ensures inboxes { result.lent.inboxes ≡ inboxes.entry }
@@ -44,6 +45,7 @@ pub(crate) fn view_of<'a>(
 {
     let automaton = program.automaton();
     View {
+        front: &[],
         names: automaton.block_names(),
         lent: LentValues {
             inboxes,

@@ -1,6 +1,7 @@
 use Rattle.std.proofs.Common.{◌++◌, ◌-◌, [], ◌∷◌, Some, length, arith, sym, ap, ◌∙◌}
 use Rattle.std.specs.Option.{option_map}
 use Rattle.std.proofs.lemmas.List.{length-append}
+use Rattle.ioa_terms.specs.Views.{all_names}
 use Rattle.ioa_terms.specs.Inboxes.{inbox_values, inboxes_of, inboxes_value}
 use Rattle.ioa_terms.proofs.Slots.{environment_constant, environment_first, environment_middle, environment_last, environment_beyond}
 use Rattle.ioa_terms.proofs.environment.View.get.Goals as goal
@@ -8,7 +9,7 @@ use Rattle.ioa_terms.proofs.environment.View.get.Goals as goal
 pub returns-then-slot-values : goal.returns-then-slot-values
 returns-then-slot-values c =
     let env = c.args.self.now in
-    let ws = env.names in
+    let ws = all_names env in
     let vs = c.args.values.now in
     let is = inbox_values (option_map (λ is. inboxes_of is.now) env.lent.inboxes) in
     let fs = env.lent.first.now in
@@ -23,7 +24,7 @@ returns-then-slot-values c =
 pub returns-in-Some : goal.returns-in-Some
 returns-in-Some c =
     let env = c.args.self.now in
-    let ws = env.names in
+    let ws = all_names env in
     let vs = c.args.values.now in
     let is = inbox_values (option_map (λ is. inboxes_of is.now) env.lent.inboxes) in
     let fs = env.lent.first.now in
@@ -40,7 +41,7 @@ returns-in-Some c =
 pub returns-in-None : goal.returns-in-None
 returns-in-None c =
     let env = c.args.self.now in
-    let ws = env.names in
+    let ws = all_names env in
     let vs = c.args.values.now in
     let is = inbox_values (option_map (λ is. inboxes_of is.now) env.lent.inboxes) in
     let fs = env.lent.first.now in
@@ -57,7 +58,7 @@ returns-in-None c =
 pub returns-then-lent-self : goal.returns-then-lent-self
 returns-then-lent-self c =
     let env = c.args.self.now in
-    let ws = env.names in
+    let ws = all_names env in
     let vs = c.args.values.now in
     let is = inbox_values (option_map (λ is. inboxes_of is.now) env.lent.inboxes) in
     let fs = env.lent.first.now in
@@ -73,7 +74,7 @@ returns-then-lent-self c =
 pub returns-then-further-self : goal.returns-then-further-self
 returns-then-further-self c =
     let env = c.args.self.now in
-    let ws = env.names in
+    let ws = all_names env in
     let vs = c.args.values.now in
     let is = inbox_values (option_map (λ is. inboxes_of is.now) env.lent.inboxes) in
     let fs = env.lent.first.now in
@@ -89,7 +90,7 @@ returns-then-further-self c =
 pub returns : goal.returns
 returns c =
     let env = c.args.self.now in
-    let ws = env.names in
+    let ws = all_names env in
     let vs = c.args.values.now in
     let is = inbox_values (option_map (λ is. inboxes_of is.now) env.lent.inboxes) in
     let fs = env.lent.first.now in
