@@ -1,8 +1,8 @@
 -- A pass never falls, and what it lets through is fresh.
 use Rattle.std.proofs.Common.{◌≡◌, ◌≤◌, ℕ, ℤ, max, Bool, true, false, List, [], ◌∷◌, Option, Some, None, Result, Ok, Err}
-use Rattle.std.proofs.Common.{if◌then◌else◌, refl, ◌∙◌, map, arith}
+use Rattle.std.proofs.Common.{if◌then◌else◌, refl, sym, ◌∙◌, ap, map, arith}
 use Rattle.std.specs.Prelude.{nat_lt}
-use Rattle.std.specs.List.{AllByRecursion}
+use Rattle.std.specs.List.{AllByRecursion, list_any}
 use Rattle.std.proofs.lemmas.Bool.{ltb-false}
 use Rattle.ioa_actions.specs.ComponentOrder.{same_component}
 use Rattle.ioa_actions.specs.declared.component.Component.{Component}
@@ -16,8 +16,8 @@ use Rattle.ioa_book.specs.Looks.{PlainSnapshot, look_answer}
 use Rattle.ioa_book.specs.declared.outcome.LookFault.{LookFault}
 use Rattle.ioa_book.specs.declared.outcome.LookFault.TheVariants as look
 use Rattle.ioa_passes.specs.Looks.{admitted, unless_older, view_answer}
-use Rattle.ioa_passes.specs.PassLaws.{IsFresh, IsRisen}
-use Rattle.ioa_passes.specs.Passes.{PlainPass, first_older, older, older_length, older_read, plain_pass, raise_all, raise_all_next}
+use Rattle.ioa_passes.specs.PassLaws.{HasSeen, IsFresh, IsRisen, IsSeenSince}
+use Rattle.ioa_passes.specs.Passes.{PlainPass, components_seen, first_older, older, older_length, older_read, plain_pass, raise_all, raise_all_next}
 use Rattle.ioa_passes.specs.Passes.{raise_next, raise_read, raise_seen, risen, risen_by_commit, risen_by_look, risen_by_refusal, seen_of}
 use Rattle.ioa_passes.specs.declared.outcome.Older.{Older}
 use Rattle.ioa_passes.specs.declared.pass.Seen.{Seen}
@@ -83,6 +83,44 @@ by_refusal p (refusal.Unknown k) = risen_pass p p.seen p.length (same_risen p.se
 by_refusal p (refusal.Stale k read held) = risen_pass p (raise_seen k held p.seen) p.length (raised_seen k held p.seen) (omega arith)
 by_refusal p (refusal.Differs k) = risen_pass p p.seen p.length (same_risen p.seen) (omega arith)
 by_refusal p refusal.Full = risen_pass p p.seen p.length (same_risen p.seen) (omega arith)
+
+-- what is raised is seen
+raised_here : (k : Component) (v : ℕ) (seen : List Seen) → IsSeenSince k v (raise_seen k v seen)
+raised_here k v [] = λ h. absurd (cc)
+raised_here k v (s ∷ more) = by_name (same_component k s.component) refl (raised_here k v more)
+  where
+    by_name : (t : Bool) → same_component k s.component ≡ t → IsSeenSince k v (raise_seen k v more) →
+        IsSeenSince k v (if t then risen v s ∷ more else s ∷ raise_seen k v more)
+    by_name true e others = rw e (λ _. omega arith)
+    by_name false e others = rw e others
+
+-- and stays so
+still_seen : (k : Component) (v : ℕ) (old new : List Seen) → AreRisen old new → IsSeenSince k v old → IsSeenSince k v new
+still_seen k v old new h g among =
+    let before : v ≤ seen_of k old = g (ap (list_any (same_component k)) (sym h.components) ∙ among) in
+    let after : seen_of k old ≤ seen_of k new = h.versions k in
+    omega (arith, before, after)
+
+seen_by_look : (rs : List PlainVersionedConf) (seen : List Seen) →
+    AllByRecursion (λ r. IsSeenSince (read_component r) r.version (raise_all rs seen)) rs
+seen_by_look [] seen = tt
+seen_by_look (r ∷ rs) seen =
+    (still_seen (read_component r) r.version (raise_read r seen) (raise_all rs (raise_read r seen)) (raised_all rs (raise_read r seen)) (raised_here (read_component r) r.version seen), seen_by_look rs (raise_read r seen))
+
+seen_by_commit : (rs : List PlainVersionedConf) (seen : List Seen) →
+    AllByRecursion (λ r. IsSeenSince (read_component r) (next_version r.version) (raise_all_next rs seen)) rs
+seen_by_commit [] seen = tt
+seen_by_commit (r ∷ rs) seen =
+    (still_seen (read_component r) (next_version r.version) (raise_next r seen) (raise_all_next rs (raise_next r seen)) (raised_all_next rs (raise_next r seen)) (raised_here (read_component r) (next_version r.version) seen), seen_by_commit rs (raise_next r seen))
+
+pub shown : (p : PlainPass) (s : PlainSnapshot) → HasSeen (risen_by_look s p) s.reads (λ v. v) s.length
+shown p s = record { log = omega arith; reads = seen_by_look s.reads p.seen }
+
+pub committed : (p : PlainPass) (rs : List PlainVersionedConf) (n : ℕ) → HasSeen (risen_by_commit rs n p) rs next_version n
+committed p rs n = record { log = omega arith; reads = seen_by_commit rs p.seen }
+
+pub met : (p : PlainPass) (k : Component) (read held : ℕ) → IsSeenSince k held (risen_by_refusal (refusal.Stale k read held) p).seen
+met p k read held = raised_here k held p.seen
 
 -- what is not older is fresh
 not_older : (n m : ℕ) (o : Older) (t : Bool) → nat_lt n m ≡ t → (if t then Some o else None) ≡ None → m ≤ n
