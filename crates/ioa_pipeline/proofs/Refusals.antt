@@ -1,8 +1,10 @@
 -- What faults of a text's system say, as faults of what is done with the system.
-use Rattle.std.proofs.Common.{◌≡◌, ◌⊎◌, ◌≤◌, inl, inr, ℕ, List, Result, Ok, Err, true, ap, length}
+use Rattle.std.proofs.Common.{◌≡◌, ◌⊎◌, ◌≤◌, inl, inr, ℕ, List, Result, Ok, Err, true, ap, length, refl}
 use Rattle.std.specs.Prelude.{IfErr, IfOk}
 use Rattle.ioa_text_reader.specs.declared.fault.FrontFault.{FrontFault}
 use Rattle.ioa_text_reader.specs.Texts.{StandsInText, is_exact, length_limit}
+use Rattle.ioa_held.specs.declared.finish.FinishFault.{FinishFault}
+use Rattle.ioa_held.specs.declared.finish.FinishFault.TheVariants as finish
 use Rattle.ioa_schedule_check.specs.declared.fault.ScheduleFault.{ScheduleFault}
 use Rattle.ioa_schedule_check.specs.declared.fault.ScheduleFault.TheVariants as schedule
 use Rattle.ioa_pipeline.specs.declared.described.SystemFault.{SystemFault}
@@ -12,7 +14,7 @@ use Rattle.ioa_pipeline.specs.declared.schedule_check.CheckScheduleFault.TheVari
 use Rattle.ioa_pipeline.specs.declared.whole_run.RunFault.{RunFault}
 use Rattle.ioa_pipeline.specs.declared.whole_run.RunFault.TheVariants as run
 use Rattle.ioa_pipeline.specs.Described.{IsExactBy, IsFaultOfText}
-use Rattle.ioa_pipeline.specs.WholeRun.{IsEarly, IsExactFor, IsFaultOfWorkers, IsRefusalOf, run_fault_of_system}
+use Rattle.ioa_pipeline.specs.WholeRun.{IsEarly, IsExactFor, IsFaultOfWorkers, IsRefusalOf, run_fault_of_finish, run_fault_of_system}
 use Rattle.ioa_system.specs.Systems.{SystemParts}
 use Rattle.ioa_schedule_check.specs.Schedules.{IsExecutionSpelled, schedule_answer}
 use Rattle.ioa_pipeline.specs.Described.{IsDescribed}
@@ -35,6 +37,16 @@ pub run_calm : (workers : ℕ) (e : SystemFault) (f : RunFault) → f ≡ run_fa
 run_calm workers (system.Front e) f is = rw is tt
 run_calm workers (system.Check e) f is = rw is tt
 run_calm workers system.Memory f is = rw is tt
+
+-- a fault of finishing with so many workers
+pub finish_calm : (workers : ℕ) (e : FinishFault) (f : RunFault) → f ≡ run_fault_of_finish e
+    → (workers ≡ 1 → e ≡ finish.Memory) → (e ≡ finish.SharesMissing → ⊥) → IsFaultOfWorkers workers f
+finish_calm workers finish.Foreign f is one there =
+    rw is ((λ w. let bad : finish.Foreign ≡ finish.Memory = one w in absurd (cc)), there)
+finish_calm workers finish.SharesMissing f is one there = absurd (there refl)
+finish_calm workers finish.Memory f is one there = rw is tt
+finish_calm workers finish.Unaccounted f is one there =
+    rw is ((λ w. let bad : finish.Unaccounted ≡ finish.Memory = one w in absurd (cc)), there)
 
 -- if the text has a fault of reading that is always found, this is that fault, or want of memory
 abbrev IsExactFault : {F : Type 0} → (FrontFault → F) → F → F → List ℕ → Type 0

@@ -63,11 +63,11 @@ run_fault_of_finish finish.SharesMissing = Finish finish.SharesMissing
 run_fault_of_finish finish.Memory = Memory
 run_fault_of_finish finish.Unaccounted = Finish finish.Unaccounted
 
--- a fault that a run by so many workers can have: one worker alone has none of finishing
+-- a fault that a run by so many workers can have: one worker alone has none of finishing, and no share is ever missing
 abbrev pub IsFaultOfWorkers : ℕ → RunFault → Type 0
 IsFaultOfWorkers workers (Front f) = ⊤
 IsFaultOfWorkers workers (Check f) = ⊤
-IsFaultOfWorkers workers (Finish f) = workers ≡ 1 → ⊥
+IsFaultOfWorkers workers (Finish f) = (workers ≡ 1 → ⊥) × (f ≡ finish.SharesMissing → ⊥)
 IsFaultOfWorkers workers Memory = ⊤
 IsFaultOfWorkers workers Write = ⊤
 

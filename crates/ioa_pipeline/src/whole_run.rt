@@ -31,7 +31,8 @@ pub enum RunFault {
     Front(FrontFault),
     /// Numbers 20 to 34: the source describes no system.
     Check(CheckFault),
-    /// `Foreign` (55), `Unaccounted` (56) or `SharesMissing` (57): what several workers left could not be put together.
+    /// `Foreign` (55) or `Unaccounted` (56): what several workers left could not be put together. `SharesMissing` (57)
+    /// does not come.
     Finish(FinishFault),
     /// `Memory` (3): memory ran out.
     Memory,
@@ -103,7 +104,7 @@ pub fn run_system<R: Threads + Wait + Sync, G: Gate + Sync, O: Out>(
         (O.bytes out.old) (O.bytes out.new) (O.failed out.new) result }
     ensures refused { IfErr result (λ f. IsRefusalOf f text.now) }
     ensures exact { IsExactFor result text.now }
-    // with one worker no fault is of finishing
+    // with one worker no fault is of finishing, and with any number of them no share is missing (57)
     ensures alone { IfErr result (λ f. IsFaultOfWorkers options.now.workers f) }
 {
     let (system, record, endings) = run_of(rt, alloc, text, options, gate)?;
@@ -134,6 +135,7 @@ fn write_report<O: Out>(
 }
 
 /// The system that a text describes, what a run of it left, and how its nodes ended.
+#[tactic(auto, using(crate::proofs::Refusals::finish_calm))]
 pub(crate) fn run_of<R: Threads + Wait + Sync, G: Gate + Sync>(
     rt: &R,
     alloc: Global,
