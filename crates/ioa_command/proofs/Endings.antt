@@ -117,8 +117,8 @@ is_asked k e = cc
 
 -- so the words ask for it
 asks : (words : List Text) (e : Error) → IsErrorOf words e → words_status (kind_of e) ≡ 0 → AsksForText words
-asks words e (inr validation) none =
-    let bad : words_status ValueValidation ≡ 0 = subst (λ k. words_status k ≡ 0) validation none in
+asks words e (inr refused) none =
+    let bad : words_status ValueValidation ≡ 0 = subst (λ k. words_status k ≡ 0) refused.0 none in
     cc
 asks words e (inl (inl memory)) none =
     let bad : words_status OutOfMemory ≡ 0 = subst (λ k. words_status k ≡ 0) memory none in

@@ -264,7 +264,7 @@ EndsAs (subcommand.Print input) given out err status =
 abbrev pub EndsChosen : List Text → Option (List ℕ) → Output → Output → ℕ → Type 0
 EndsChosen words given out err status = (chosen : Subcommand) × Chooses words chosen × EndsAs chosen given out err status
 
--- the words choose nothing, and the program shows the text of their error
+-- clap refuses the words, they choose nothing, or memory ran out, and the program shows the text of that error
 abbrev pub EndsWords : List Text → Output → Output → ℕ → Type 0
 EndsWords words out err status = (e : Error) × IsErrorOf words e × ShowsWords (kind_of e) status out err
 

@@ -1,8 +1,8 @@
 -- The words of the command line (profile): what clap is told of them, and what its matches choose.
-use Rattle.std.specs.Prelude.{◌≡◌, ◌⊎◌, ℕ, true, if◌then◌else◌, List, [], ◌∷◌, Option, Some, None, codes}
-use Rattle.std.specs.Prelude.{option_and_then, option_map, string_bytes}
+use Rattle.std.specs.Prelude.{◌≡◌, ◌⊎◌, ◌<◌, ◌^◌, ⊤, ℕ, true, if◌then◌else◌, List, [], ◌∷◌, Option, Some, None}
+use Rattle.std.specs.Prelude.{codes, option_and_then, option_map, string_bytes}
 use Rattle.std.specs.Str.{bytes_eq}
-use Rattle.std.specs.Str.Parse.{digits_value, without_leading_plus}
+use Rattle.std.specs.Str.Parse.{IsNumeral, digits_value, without_leading_plus}
 use Rattle.clap.specs.Walk.{Row, Rule, Text, first_of, one_of}
 use Rattle.clap.specs.Simple.{App, new_app, new_rule, on_top, with_rule, with_subcommand, subcommand_of}
 use Rattle.clap.specs.Faults.{fault_of}
@@ -19,7 +19,7 @@ use Rattle.ioa_record.specs.declared.options.TheConstants.{DEFAULT_WORKERS}
 use Rattle.ioa_pipeline.specs.declared.tracing.Format.{Format}
 use Rattle.ioa_pipeline.specs.declared.tracing.Format.TheVariants as format
 use Rattle.ioa_pipeline.specs.declared.tracing.Format.TheVariants.{Json, States, Diagram, Sequence}
-use Rattle.ioa_record.specs.Options.{PlainOptions}
+use Rattle.ioa_record.specs.Options.{AreInRange, PlainOptions}
 use Rattle.ioa_monitor.specs.declared.findings.Findings.{Findings}
 use Rattle.ioa_command.specs.declared.choice.InputName.{InputName}
 use Rattle.ioa_command.specs.declared.choice.InputName.TheVariants.{Standard, File}
@@ -100,16 +100,21 @@ program_app =
     check_app.top)
     print_app.top
 
--- the number that an option has in the matches: that of its decimal digits
-abbrev pub IsNumberOf : List Row → Text → ℕ → Type 0
-IsNumberOf rows name n =
-    (t : Text) × (one_of name rows ≡ Some t) × (n ≡ digits_value 10 (without_leading_plus t))
+-- a text is read as a number: it has decimal digits, behind a plus or not, and their number fits in 64 bits
+abbrev pub IsReadAs : Text → ℕ → Type 0
+IsReadAs text n =
+    IsNumeral 10 (without_leading_plus text) × (n ≡ digits_value 10 (without_leading_plus text)) × (n < 2 ^ 64)
 
--- the three numbers of options
-abbrev pub AreNumbersOf : List Row → PlainOptions → Type 0
-AreNumbersOf rows o =
-    IsNumberOf rows (codes "workers") o.workers × IsNumberOf rows (codes "steps") o.steps
-    × IsNumberOf rows (codes "attempts") o.attempts
+-- the number that an option has in the matches: as its text is read
+abbrev pub IsNumberOf : List Row → Text → ℕ → Type 0
+IsNumberOf rows name n = (text : Text) × (one_of name rows ≡ Some text) × IsReadAs text n
+
+-- the three numbers of options, each in its range
+pub record AreNumbersOf (rows : List Row) (o : PlainOptions) : Type 0 where
+  pub workers : IsNumberOf rows (codes "workers") o.workers
+  pub steps : IsNumberOf rows (codes "steps") o.steps
+  pub attempts : IsNumberOf rows (codes "attempts") o.attempts
+  pub range : AreInRange o.workers o.steps o.attempts
 
 -- the file of an input, if it is none of standard input
 abbrev pub name_of : InputName → Option Text
@@ -143,11 +148,12 @@ abbrev pub format_given : Option Text → Option Format
 format_given None = Some format.Text
 format_given (Some name) = format_named name
 
--- options of one worker, with two numbers
-abbrev pub AreLimitsOf : List Row → PlainOptions → Type 0
-AreLimitsOf rows o =
-    (o.workers ≡ DEFAULT_WORKERS) × IsNumberOf rows (codes "steps") o.steps
-    × IsNumberOf rows (codes "attempts") o.attempts
+-- options of one worker, with two numbers, each in its range
+pub record AreLimitsOf (rows : List Row) (o : PlainOptions) : Type 0 where
+  pub workers : o.workers ≡ DEFAULT_WORKERS
+  pub steps : IsNumberOf rows (codes "steps") o.steps
+  pub attempts : IsNumberOf rows (codes "attempts") o.attempts
+  pub range : AreInRange o.workers o.steps o.attempts
 
 -- what the matches of `trace` choose
 pub record IsTraceOf (rows : List Row) (t : TraceChoice) : Type 0 where
@@ -161,10 +167,18 @@ pub record IsRunOf (rows : List Row) (r : RunChoice) : Type 0 where
   pub options : AreNumbersOf rows r.options
   pub fail_on : findings_given (first_of (codes "fail-on") rows) ≡ Some r.fail_on
 
+-- an input and another, if there is one, are not both standard input
+abbrev pub ReadsApart : InputName → Option InputName → Type 0
+ReadsApart (File name) other = ⊤
+ReadsApart Standard None = ⊤
+ReadsApart Standard (Some (File name)) = ⊤
+ReadsApart Standard (Some Standard) = ⊥
+
 -- what the matches of `check` choose
 pub record IsCheckOf (rows : List Row) (c : CheckChoice) : Type 0 where
   pub input : name_of c.input ≡ input_given (first_of (codes "file") rows)
   pub schedule : option_map name_of c.schedule ≡ option_map input_named (first_of (codes "schedule") rows)
+  pub apart : ReadsApart c.input c.schedule
 
 -- the subcommand that the matches name, with what it is asked to do
 abbrev pub IsChosenBy : Option (Text × List Row) → Subcommand → Type 0
@@ -181,9 +195,18 @@ IsChosenBy (Some (name, rows)) (Print input) =
 abbrev pub Chooses : List Text → Subcommand → Type 0
 Chooses words choice = IsChosenBy (subcommand_of program_app words) choice
 
--- an error that clap has for the words, or want of memory; or one for a number that it let through outside its range
+-- clap takes the words
+abbrev pub AreTaken : List Text → Type 0
+AreTaken words = fault_of program_app words ≡ []
+
+-- the words choose no subcommand
+abbrev pub ChoosesNothing : List Text → Type 0
+ChoosesNothing words = (choice : Subcommand) → Chooses words choice → ⊥
+
+-- an error that clap has for the words, or want of memory; or one for words that clap takes and that choose nothing
 abbrev pub IsErrorOf : List Text → Error → Type 0
-IsErrorOf words e = HasKind (fault_of program_app words) e ⊎ (kind_of e ≡ ValueValidation)
+IsErrorOf words e =
+    HasKind (fault_of program_app words) e ⊎ ((kind_of e ≡ ValueValidation) × AreTaken words × ChoosesNothing words)
 
 -- the words ask for the help or for the version
 abbrev pub AsksForText : List Text → Type 0

@@ -1,4 +1,5 @@
 -- what the contracts of this crate cite
+pub mod Choices
 pub mod Command
 pub mod CommandLine
 pub mod FailOn

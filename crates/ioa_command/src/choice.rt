@@ -1,5 +1,8 @@
 //! What the words of the command line can choose.
 
+ghost use Rattle.std.specs.Prelude.{◌≡◌};
+ghost use Rattle.ioa_command.specs.declared.choice.ChoiceFault.TheVariants.{Memory};
+
 use ioa_pipeline::{Findings, Format, Options};
 use std::alloc::AllocError;
 
@@ -58,11 +61,26 @@ pub enum Subcommand {
     Print(InputName),
 }
 
-/// Why words that clap takes choose nothing.
+/// Why words that clap takes give no subcommand.
 #[derive(Debug, Drop)]
 pub(crate) enum ChoiceFault {
     /// Memory ran out.
     Memory(AllocError),
+    /// The words choose nothing.
+    Nothing(WordsFault),
+}
+
+impl From<AllocError> for ChoiceFault {
+    ghost from_gives = { λ error fault. fault ≡ Memory error };
+
+    fn from(error: AllocError) -> Self {
+        ChoiceFault::Memory(error)
+    }
+}
+
+/// Why words that clap takes choose nothing.
+#[derive(Clone, Copy, Debug)]
+pub(crate) enum WordsFault {
     /// No subcommand is named, or a number is outside its range.
     Number,
     /// `--fail-on` has a name that is none of its three.
@@ -73,23 +91,16 @@ pub(crate) enum ChoiceFault {
     Twice,
 }
 
-impl ChoiceFault {
+impl WordsFault {
     /// What is told of it.
-    pub(crate) fn text(&self) -> &'static str {
+    pub(crate) fn text(self) -> &'static str {
         match self {
-            ChoiceFault::Memory(_) => "memory ran out",
-            ChoiceFault::Number => "a number is outside its range",
-            ChoiceFault::FailOn => {
+            WordsFault::Number => "a number is outside its range",
+            WordsFault::FailOn => {
                 "--fail-on takes fault, spent and invariant: one of them, or several with commas between"
             }
-            ChoiceFault::Format => "--format takes text, json, itf, svg or mermaid",
-            ChoiceFault::Twice => "only one of FILE and SCHEDULE can be standard input",
+            WordsFault::Format => "--format takes text, json, itf, svg or mermaid",
+            WordsFault::Twice => "only one of FILE and SCHEDULE can be standard input",
         }
-    }
-}
-
-impl From<AllocError> for ChoiceFault {
-    fn from(fault: AllocError) -> Self {
-        ChoiceFault::Memory(fault)
     }
 }

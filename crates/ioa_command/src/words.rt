@@ -1,6 +1,6 @@
 //! What the words of the command line choose.
 
-ghost use Rattle.std.specs.Prelude.{◌≡◌, ◌<◌, ◌^◌, codes, false, map, option_map, IfOk, IfErr, IfSome};
+ghost use Rattle.std.specs.Prelude.{◌≡◌, ◌<◌, ◌^◌, Some, codes, false, map, option_map, IfOk, IfErr};
 ghost use Rattle.clap.specs.Matches.{found_of};
 ghost use Rattle.clap.specs.Walk.{first_of, rows_of};
 ghost use Rattle.clap.specs.Simple.{with_rule, with_subcommand};
@@ -14,8 +14,11 @@ ghost use Rattle.ioa_command.specs.CommandLine.{Chooses, IsCheckOf, IsChosenBy, 
 ghost use Rattle.ioa_command.specs.CommandLine.{IsTraceOf};
 ghost use Rattle.ioa_command.specs.CommandLine as spec;
 ghost use Rattle.ioa_command.specs.CommandLine.{AreLimitsOf, AreNumbersOf, name_of};
+ghost use Rattle.ioa_command.specs.Choices.{Finds, Settles};
 
-use crate::choice::{CheckChoice, ChoiceFault, InputName, RunChoice, Subcommand, TraceChoice};
+use crate::choice::{
+    CheckChoice, ChoiceFault, InputName, RunChoice, Subcommand, TraceChoice, WordsFault,
+};
 use crate::fail_on::{findings_named, no_findings};
 use crate::formats::format_named;
 use clap::builder::ValueParser;
@@ -94,9 +97,13 @@ Example:
   ioarun print examples/relay.ioa";
 
 /// What the words choose, the program's name first (profile). `--workers N`, `--steps N` and `--attempts N` have
-/// decimal numbers, each in its range of [`Options`]; if one is not given, it is that of `Options::default`. The error
-/// is clap's own, and has no number: it is a text that the words ask for (`--help` or `--version`), says what is wrong
-/// with the words, or tells want of memory.
+/// decimal numbers, each in its range of [`Options`]; if one is not given, it is that of `Options::default`.
+///
+/// The error is clap's own, and has no number. Its kind says why no subcommand is chosen: `DisplayHelp` or
+/// `DisplayVersion`, since the words ask for the help or the version; `OutOfMemory`, since memory ran out, whatever the
+/// words are; and any other, since the words are refused. Clap refuses words that it does not know and numbers outside
+/// their range, each by a kind that it has for them. Words that clap takes are refused by the kind `ValueValidation` if
+/// they choose nothing: a name of `--fail-on` or `--format` is unknown, or text and schedule are both standard input.
 pub fn options<'a>(alloc: Global, words: &'a [&'a str]) -> Result<Subcommand, Error>
     ensures chosen { IfOk result (Chooses (map (λ w. w.now) words.entry.now)) }
     ensures refused { IfErr result (IsErrorOf (map (λ w. w.now) words.entry.now)) }
@@ -108,7 +115,10 @@ pub fn options<'a>(alloc: Global, words: &'a [&'a str]) -> Result<Subcommand, Er
     };
     match choice_of(alloc, &matches) {
         Ok(subcommand) => Ok(subcommand),
-        Err(fault) => Err(command.error(ErrorKind::ValueValidation, fault.text())?),
+        Err(ChoiceFault::Memory(error)) => Err(Error::from(error)),
+        Err(ChoiceFault::Nothing(why)) => {
+            Err(command.error(ErrorKind::ValueValidation, why.text())?)
+        }
     }
 }
 
@@ -324,35 +334,46 @@ fn number<'a>(alloc: Global, name: &'a str, default: &'a str, parser: ValueParse
 
 /// What the matches choose.
 fn choice_of(alloc: Global, matches: &ArgMatches<'_>) -> Result<Subcommand, ChoiceFault>
-    ensures { IfOk result (IsChosenBy (subcommand_rows_of matches.now)) }
+    ensures { Settles (IsChosenBy (subcommand_rows_of matches.now)) result }
 {
-    let Some((name, found)) = matches.subcommand() else {
-        return Err(ChoiceFault::Number);
-    };
+    match matches.subcommand() {
+        None => Err(ChoiceFault::Nothing(WordsFault::Number)),
+        Some((name, found)) => choice_named(alloc, name, found),
+    }
+}
+
+/// What the matches of the subcommand of this name choose.
+fn choice_named(
+    alloc: Global,
+    name: &str,
+    matches: &ArgMatches<'_>,
+) -> Result<Subcommand, ChoiceFault>
+    ensures { Settles (IsChosenBy (Some (name.now, rows_of (found_of matches.now)))) result }
+{
     if name == "run" {
-        Ok(Subcommand::Run(run_choice(alloc, found)?))
+        run_choice(alloc, matches).map(Subcommand::Run)
     } else if name == "explain" {
-        Ok(Subcommand::Explain(input_given(alloc, found)?))
+        Ok(Subcommand::Explain(input_given(alloc, matches)?))
     } else if name == "trace" {
-        Ok(Subcommand::Trace(trace_choice(alloc, found)?))
+        trace_choice(alloc, matches).map(Subcommand::Trace)
     } else if name == "check" {
-        Ok(Subcommand::Check(check_choice(alloc, found)?))
+        check_choice(alloc, matches).map(Subcommand::Check)
     } else if name == "print" {
-        Ok(Subcommand::Print(input_given(alloc, found)?))
+        Ok(Subcommand::Print(input_given(alloc, matches)?))
     } else {
-        Err(ChoiceFault::Number)
+        Err(ChoiceFault::Nothing(WordsFault::Number))
     }
 }
 
 /// What `run` is asked to do.
 fn run_choice(alloc: Global, matches: &ArgMatches<'_>) -> Result<RunChoice, ChoiceFault>
-    ensures { IfOk result (IsRunOf (rows_of (found_of matches.now))) }
+    ensures { Settles (IsRunOf (rows_of (found_of matches.now))) result }
 {
     let Some(options) = options_given(matches) else {
-        return Err(ChoiceFault::Number);
+        return Err(ChoiceFault::Nothing(WordsFault::Number));
     };
     let Some(fail_on) = findings_given(matches) else {
-        return Err(ChoiceFault::FailOn);
+        return Err(ChoiceFault::Nothing(WordsFault::FailOn));
     };
     let input = input_given(alloc, matches)?;
     Ok(RunChoice {
@@ -364,7 +385,7 @@ fn run_choice(alloc: Global, matches: &ArgMatches<'_>) -> Result<RunChoice, Choi
 
 /// The three numbers, if each is there and in its range.
 fn options_given(matches: &ArgMatches<'_>) -> Option<Options>
-    ensures { IfSome result (AreNumbersOf (rows_of (found_of matches.now))) }
+    ensures { Finds (AreNumbersOf (rows_of (found_of matches.now))) result }
 {
     let workers = number_given(matches, "workers")?;
     let steps = number_given(matches, "steps")?;
@@ -374,13 +395,13 @@ fn options_given(matches: &ArgMatches<'_>) -> Option<Options>
 
 /// What `trace` is asked to do.
 fn trace_choice(alloc: Global, matches: &ArgMatches<'_>) -> Result<TraceChoice, ChoiceFault>
-    ensures { IfOk result (IsTraceOf (rows_of (found_of matches.now))) }
+    ensures { Settles (IsTraceOf (rows_of (found_of matches.now))) result }
 {
     let Some(options) = limits_given(matches) else {
-        return Err(ChoiceFault::Number);
+        return Err(ChoiceFault::Nothing(WordsFault::Number));
     };
     let Some(format) = format_given(matches) else {
-        return Err(ChoiceFault::Format);
+        return Err(ChoiceFault::Nothing(WordsFault::Format));
     };
     let input = input_given(alloc, matches)?;
     Ok(TraceChoice {
@@ -392,7 +413,7 @@ fn trace_choice(alloc: Global, matches: &ArgMatches<'_>) -> Result<TraceChoice, 
 
 /// The options of one worker, with the two numbers, if each is there and in its range.
 fn limits_given(matches: &ArgMatches<'_>) -> Option<Options>
-    ensures { IfSome result (AreLimitsOf (rows_of (found_of matches.now))) }
+    ensures { Finds (AreLimitsOf (rows_of (found_of matches.now))) result }
 {
     let steps = number_given(matches, "steps")?;
     let attempts = number_given(matches, "attempts")?;
@@ -421,12 +442,14 @@ fn findings_given(matches: &ArgMatches<'_>) -> Option<Findings>
 
 /// What `check` is asked to do.
 fn check_choice(alloc: Global, matches: &ArgMatches<'_>) -> Result<CheckChoice, ChoiceFault>
-    ensures { IfOk result (IsCheckOf (rows_of (found_of matches.now))) }
+    ensures { Settles (IsCheckOf (rows_of (found_of matches.now))) result }
 {
     let input = input_given(alloc, matches)?;
     let schedule = schedule_given(alloc, matches)?;
     match (&input, &schedule) {
-        (InputName::Standard, Some(InputName::Standard)) => Err(ChoiceFault::Twice),
+        (InputName::Standard, Some(InputName::Standard)) => {
+            Err(ChoiceFault::Nothing(WordsFault::Twice))
+        }
         _ => Ok(CheckChoice { input, schedule }),
     }
 }
@@ -473,7 +496,7 @@ fn word_given<'a>(matches: &ArgMatches<'a>, name: &str) -> Option<&'a str>
 
 /// The number that the matches have for an option.
 fn number_given(matches: &ArgMatches<'_>, name: &str) -> Option<u64>
-    ensures { IfSome result (IsNumberOf (rows_of (found_of matches.now)) name.now) }
+    ensures { Finds (IsNumberOf (rows_of (found_of matches.now)) name.now) result }
 {
     matches.get_one::<u64>(name)
 }

@@ -1,7 +1,18 @@
-use Rattle.std.proofs.Common.{inl}
-use Rattle.ioa_command.proofs.CommandLine.{kinds_are}
+use Rattle.std.proofs.Common.{inl, inr}
+use Rattle.ioa_command.proofs.CommandLine.{kinds_are, nothing_is, takes_are}
 use Rattle.ioa_command.proofs.words.options.Goals as goal
 
 pub returns-in-Err-clause-refused : goal.returns-in-Err-clause-refused
 returns-in-Err-clause-refused c =
     inl (kinds_are _ _ c.in-Err.error c.in_ok-command.ensures.0 c.in-Err.ensures.kinds)
+
+pub returns-clause-refused : goal.returns-clause-refused
+returns-clause-refused c =
+    let told = c.in_ok-command.ensures.0 in
+    let taken = c.in-Ok.ensures in
+    let why = c.in-Err-Nothing in
+    inr (
+      c.in_ok-error-in-Err-Nothing.ensures.kind,
+      takes_are _ _ told taken.kinds,
+      nothing_is _ _ c.in-Ok.matches _ _ told taken.ok.2 why.ensures why.field-0-is,
+    )
