@@ -1,5 +1,5 @@
-//! Actions, components and kinds of channels of a system: their order, their text, what an action has (its node, its name, its
-//! arguments, its message), and why an action is no step.
+//! Actions, components and kinds of channels of a system: their order, their text, what an action has (its node, its
+//! name, its arguments, its message), and why an action is no step.
 //!
 //! **A crate of its own**, since nodes, queues and the composition share it and are proved side by side; the words
 //! `send` and `receive` stand here and nowhere else.

@@ -69,7 +69,8 @@ RunsText options given out result =
     × IfErr result (λ f. IsRefusalOf f text) × IsExactFor result text
     × IfErr result (λ f. IsFaultOfWorkers options.workers f)
 
--- lines were checked against a text; a fault is one of them, and no fault of the text that is always found is passed over
+-- lines were checked against a text; a fault is one of them, and no fault of the text that is always found is passed
+-- over
 abbrev pub ChecksIn : (text lines : List ℕ) → Output → Result (Unit {0}) CheckScheduleFault → Type 0
 ChecksIn text lines out result =
     SaysExecution text lines out.old out.new out.failed result × IfErr result (λ f. IsFaultOfCheck f text lines)

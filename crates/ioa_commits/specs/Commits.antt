@@ -65,8 +65,8 @@ pub record StandsIn (b : PlainBook) (r : PlainVersionedConf) : Type 0 where
 abbrev pub AllHeld : PlainBook → List PlainVersionedConf → Type 0
 AllHeld b rs = AllByRecursion (λ r. held_of b (read_component r) ≡ Some r) rs
 
--- a proposal that stands by what can be told quickly: no component has two slots, what was read of the queue, if one takes
--- part, and of the node is held in these slots, and the log has room for one entry more in its last block, of 64
+-- a proposal that stands by what can be told quickly: no component has two slots, what was read of the queue, if one
+-- takes part, and of the node is held in these slots, and the log has room for one entry more in its last block, of 64
 pub record StandsQuickly (b : PlainBook) (rs : List PlainVersionedConf) (at slot : ℕ) : Type 0 where
   pub distinct : AreDistinct (component_names (states_held b))
   pub held : (r : PlainVersionedConf) → node_read rs ≡ Some r → AreHeldIn (holdings b) at slot (queue_read rs) r

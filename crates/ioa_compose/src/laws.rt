@@ -91,8 +91,8 @@ pub fn projection_law()
         → ProjectsOnEach HasAnswer start entries confs }
 {}
 
-/// In an execution each channel hands out its messages in the order in which they were sent and keeps the rest, or, if it
-/// keeps no order, hands out and keeps each message as often as it was sent. The former is what Lynch 14.1 says: the
+/// In an execution each channel hands out its messages in the order in which they were sent and keeps the rest, or, if
+/// it keeps no order, hands out and keeps each message as often as it was sent. The former is what Lynch 14.1 says: the
 /// messages received are a prefix of the messages sent. The latter is profile, and so is that each script hands out its
 /// stimuli in order.
 pub fn delivery_law()

@@ -51,8 +51,8 @@ fn steps(alloc: Global, start: Vec<Conf>, entries: &[Entry]) -> Result<Vec<Conf>
 }
 
 /// The configurations after the joint steps by a list of entries (Lynch 8.1), or the position of the first entry that
-/// is no step or meets a number outside 64 bits, with the fault of its joint step. If memory runs out it may stop at any
-/// entry.
+/// is no step or meets a number outside 64 bits, with the fault of its joint step. If memory runs out it may stop at
+/// any entry.
 pub fn replay_from(
     alloc: Global,
     start: Vec<Conf>,

@@ -1,5 +1,5 @@
--- What some tokens spell is spelled by the tokens that it is printed with, and these are tokens that a text can have where
--- those are.
+-- What some tokens spell is spelled by the tokens that it is printed with, and these are tokens that a text can have
+-- where those are.
 use Rattle.std.proofs.Common.{List, [], ◌∷◌, ◌++◌, append_assoc, append-nil}
 use Rattle.ioa_tokens.specs.declared.token.Token.{Token}
 use Rattle.ioa_tokens.specs.declared.token.Token.TheVariants as token

@@ -333,8 +333,8 @@ fn all_items_fit(shape: &Shape, items: &Sequence, negative: bool) -> bool
     true
 }
 
-/// Whether the members of a set all have a shape; if `negative` is true, negative numbers pass for naturals too. Looks at
-/// each member only if what the set knows of all its members does not tell.
+/// Whether the members of a set all have a shape; if `negative` is true, negative numbers pass for naturals too. Looks
+/// at each member only if what the set knows of all its members does not tell.
 #[cycle(admitting)]
 fn all_members_fit(shape: &Shape, members: &FiniteSet, negative: bool) -> bool
     ensures { result ≡ all_have (wide_shape_if negative shape.now) (items_of members.now) }

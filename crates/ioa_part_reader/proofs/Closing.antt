@@ -14,7 +14,8 @@ use Rattle.ioa_part_reader.specs.declared.statement.Context.{Context}
 use Rattle.ioa_part_reader.specs.declared.statement.Context.TheVariants.{Effect, Block}
 use Rattle.ioa_part_reader.specs.Reading.{kind_first, at_kind, begins_in_block, begins_statement, at_declaration, at_placement}
 
--- the level at which a mark goes on with what comes before it: 14 where it goes on with a term, 0 where it goes on with nothing
+-- the level at which a mark goes on with what comes before it: 14 where it goes on with a term, 0 where it goes on with
+-- nothing
 abbrev pub mark_level : Mark → ℕ
 mark_level mark.Assign = 13
 mark_level mark.Where = 12

@@ -1,5 +1,5 @@
--- What a pass is good for (profile): it never falls, it rises to what it is shown, and what it lets through is not older
--- than what was seen.
+-- What a pass is good for (profile): it never falls, it rises to what it is shown, and what it lets through is not
+-- older than what was seen.
 use Rattle.std.specs.Prelude.{◌≡◌, ◌≤◌, ℕ, List, map, true}
 use Rattle.std.specs.List.{AllByRecursion, list_any}
 use Rattle.ioa_actions.specs.ComponentOrder.{same_component}
@@ -19,7 +19,8 @@ pub record IsRisen (p q : PlainPass) : Type 0 where
 abbrev pub IsSeenSince : Component → ℕ → List Seen → Type 0
 IsSeenSince k v seen = list_any (same_component k) (components_seen seen) ≡ true → v ≤ seen_of k seen
 
--- a pass that has seen a log of this length at least, and of all that was read the version that follows from the one read
+-- a pass that has seen a log of this length at least, and of all that was read the version that follows from the one
+-- read
 pub record HasSeen (p : PlainPass) (rs : List PlainVersionedConf) (version : ℕ → ℕ) (n : ℕ) : Type 0 where
   pub log : n ≤ p.length
   pub reads : AllByRecursion (λ r. IsSeenSince (read_component r) (version r.version) p.seen) rs

@@ -11,8 +11,8 @@ use Rattle.ioa_actions.specs.declared.action.Action.{Action}
 use Rattle.ioa_actions.specs.declared.action.Action.TheVariants.{Send, Receive, Local, Stimulus}
 
 abbrev mutual
-  -- a value of a text with so many constants: its numbers lie in 64 bits, its constants are among those of the text, and
-  -- its tuples have parts
+  -- a value of a text with so many constants: its numbers lie in 64 bits, its constants are among those of the text,
+  -- and its tuples have parts
   pub IsPrintable : ℕ → Data → Type 0
   IsPrintable many (number z) = fits z ≡ true
   IsPrintable many (truth b) = Unit {0}

@@ -19,8 +19,8 @@ use ioa_compose::{Conf, Parties, participants};
 use ioa_sharing::Origin;
 
 /// Why an action that is not enabled on what a look shows is not, by the queue that takes part in it: the queue has no
-/// item, or its first item is another one, or it keeps no order and has not the message that is received. Else the reason
-/// is the node's, of which `find_falsified` says more.
+/// item, or its first item is another one, or it keeps no order and has not the message that is received. Else the
+/// reason is the node's, of which `find_falsified` says more.
 pub fn reason_of<'a, O: Origin>(look: &'a Snapshot<O>, action: &Action) -> Reason<'a>
     ensures { IsReason (queue_among (participants_of action.now) (read_confs look.now.reads)) action.now
         (told.reason_of result) }

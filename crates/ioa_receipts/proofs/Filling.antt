@@ -20,8 +20,8 @@ count_at_same r rs k same = rw (eq-eqb r.index k same) refl
 pub count_at_other : (r : Receipt) (rs : List Receipt) (k : ℕ) → r.index ≢ k → count_at k (r ∷ rs) ≡ count_at k rs
 count_at_other r rs k differ = rw (ne_eqb r.index k differ) refl
 
--- a place goes with an entry of the log while so many receipts for it are left: it has nothing in it and there is one, or
--- it has the entry in it and there is none
+-- a place goes with an entry of the log while so many receipts for it are left: it has nothing in it and there is one,
+-- or it has the entry in it and there is none
 abbrev GoesWith : Option PlainEntry → PlainEntry → ℕ → Type 0
 GoesWith None e n = n ≡ 1
 GoesWith (Some d) e n = (d ≡ e) × (n ≡ 0)

@@ -83,8 +83,8 @@ abbrev pub all_read : Result (List Action) LineFault → Result (Unit {0}) LineF
 all_read (Ok actions) = Ok tt
 all_read (Err e) = Err e
 
--- the lines spell a schedule; its first actions, as many as the place says, replay from the start, and the joint step of
--- the next one has this fault (Lynch 8.1)
+-- the lines spell a schedule; its first actions, as many as the place says, replay from the start, and the joint step
+-- of the next one has this fault (Lynch 8.1)
 pub record StopsAtStep (s : SystemParts) (text : List ℕ) (k : ℕ) (f : StepFault) : Type 0 where
   pub actions : List Action
   pub spelled : Lines s text actions

@@ -1,6 +1,6 @@
--- Which receive takes which send: the first one on its channel whose message is equal and was not received before. In an
--- execution that is the first send that waits on the channel (Lynch 14.1), or if the channel keeps no order the one whose
--- message the queue loses (profile).
+-- Which receive takes which send: the first one on its channel whose message is equal and was not received before. In
+-- an execution that is the first send that waits on the channel (Lynch 14.1), or if the channel keeps no order the one
+-- whose message the queue loses (profile).
 use Rattle.std.specs.Prelude.{ℕ, ℤ, Bool, ◌&&◌, if◌then◌else◌, List, [], ◌∷◌, ◌++◌, length, slice_set}
 use Rattle.std.specs.Prelude.{Option, Some, None, slice_get}
 use Rattle.std.specs.Ordering.{int_eq}
@@ -27,9 +27,9 @@ abbrev pub rest_of : Data → List (ℕ × Data) → List (ℕ × Data)
 rest_of m [] = []
 rest_of m (w ∷ ws) = if same m w.1 then ws else w ∷ rest_of m ws
 
--- actions that were gone through: what is under way on the channel between two nodes, which are the sends whose messages
--- were not received, first to last, each with its position and its message; and the partner of each action, if it has
--- one
+-- actions that were gone through: what is under way on the channel between two nodes, which are the sends whose
+-- messages were not received, first to last, each with its position and its message; and the partner of each action, if
+-- it has one
 pub record Matching : Type 0 where
   pub under_way : ℤ → ℤ → List (ℕ × Data)
   pub found : List (Option ℕ)

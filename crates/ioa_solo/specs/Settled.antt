@@ -1,5 +1,5 @@
--- Nodes that are settled (form): on what the last look at them showed, an attempt does no more than use one attempt. The
--- action that they fire is not enabled there, or they idle, and then their block is again what it was.
+-- Nodes that are settled (form): on what the last look at them showed, an attempt does no more than use one attempt.
+-- The action that they fire is not enabled there, or they idle, and then their block is again what it was.
 use Rattle.std.specs.Prelude.{◌≡◌, ⊤, Option, Some, None, Result, Ok, Err}
 use Rattle.ioa_actions.specs.declared.fault.StepFault.{StepFault}
 use Rattle.ioa_commits.specs.Proposals.{PlainProposal}
@@ -44,7 +44,8 @@ unfoldable pub IsSettledIn : PlainProgress → Option PlainSnapshot → Type 0
 IsSettledIn p None = ⊥
 IsSettledIn p (Some s) = IsSettled p s
 
--- what the block before a node's last turn, if it is kept, tells of that turn: it was the turn of a node with that block
+-- what the block before a node's last turn, if it is kept, tells of that turn: it was the turn of a node with that
+-- block
 unfoldable pub IsTurned : Option PlainState → PlainSnapshot → PlainProgress → TurnEnd → Type 0
 IsTurned None s q e = ⊤
 IsTurned (Some b) s q e = turn_at (read_confs s.reads) (with_block b q) ≡ Ok (e, q)

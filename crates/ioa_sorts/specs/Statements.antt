@@ -1,6 +1,6 @@
 -- The sorts of statements (profile): each assigned term has the shape of its target, each test is a truth value, and
--- each firing is of an action with its arguments. Only a schedule block has `while` and `fire`. A choice is refused: the
--- check knows none yet.
+-- each firing is of an action with its arguments. Only a schedule block has `while` and `fire`. A choice is refused:
+-- the check knows none yet.
 use Rattle.std.specs.Prelude.{ℕ, Bool, if◌then◌else◌, List, [], ◌∷◌, Option, Some, None, Result, Ok, Err}
 use Rattle.ioa_values.specs.Outcome.{and_then}
 use Rattle.ioa_operators.specs.Shapes.{PlainShape, truths}

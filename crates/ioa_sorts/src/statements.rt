@@ -30,10 +30,10 @@ pub(crate) struct TypedTarget {
 }
 
 /// The statements with the slot of each name and the shape of each display and of each target's variable. Returns what
-/// `fit` does, `Unknown` (20) if a target is no variable or has no such field, if a firing names no entry, for a choice,
-/// or for a `while` that is not in a schedule block, `ScheduleAssignsState` (26) if a schedule block assigns a state variable,
-/// and `Sorts` (22) if a target has no keys or no fields, or if a term has another sort than its target or is tested
-/// and no truth value. The first refusal in the text's order is returned.
+/// `fit` does, `Unknown` (20) if a target is no variable or has no such field, if a firing names no entry, for a
+/// choice, or for a `while` that is not in a schedule block, `ScheduleAssignsState` (26) if a schedule block assigns a
+/// state variable, and `Sorts` (22) if a target has no keys or no fields, or if a term has another sort than its target
+/// or is tested and no truth value. The first refusal in the text's order is returned.
 #[cycle(sorting_statements)]
 pub fn sort_statements(
     alloc: Global,

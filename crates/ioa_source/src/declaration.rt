@@ -231,8 +231,8 @@ impl<N: Drop, C: Drop, D: Drop> Drop for Node<N, C, D> {
     }
 }
 
-/// `channel i -> j`: a reliable FIFO channel (Lynch 14.1); `channel i -> j unordered`: a reliable one that hands out any
-/// message that is on it (profile).
+/// `channel i -> j`: a reliable FIFO channel (Lynch 14.1); `channel i -> j unordered`: a reliable one that hands out
+/// any message that is on it (profile).
 #[derive(Clone, Copy, Debug, PartialEq, Eq)]
 pub struct Channel {
     /// The node that sends.

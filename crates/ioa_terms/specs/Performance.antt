@@ -69,8 +69,8 @@ abbrev pub next_given : PlainShape → List Data → Result Chosen Lack
 next_given s [] = Err no_choice
 next_given s (v ∷ vs) = if has_shape s v then Ok (chosen v (given vs)) else Err no_choice
 
--- a value for a choice (profile): the next of those that are given, if it is of the choice's shape; or what its own term
--- yields, which is no negative number for a natural
+-- a value for a choice (profile): the next of those that are given, if it is of the choice's shape; or what its own
+-- term yields, which is no negative number for a natural
 abbrev pub value_chosen : PlainShape → Option Data → Source → Result Chosen Lack
 value_chosen s t (given vs) = next_given s vs
 value_chosen s t (yielded vs) =
@@ -147,7 +147,8 @@ numbers_met_by_assignment (variable x at d) t e = numbers_met t e
 numbers_met_by_assignment (at_key x at d k) t e = numbers_met k e ++ if_any (value k e) (numbers_met t e)
 numbers_met_by_assignment (at_field x at d f) t e = numbers_met t e
 
--- the results that a choice meets: those of the term that yields the value, if none is given, and those of the condition
+-- the results that a choice meets: those of the term that yields the value, if none is given, and those of the
+-- condition
 abbrev pub numbers_met_by_yield : {N C : Type 0} → PlainTerm N C Shape → Source → Bindings → List Data
 numbers_met_by_yield t (given vs) e = []
 numbers_met_by_yield t (yielded vs) e = numbers_met t e

@@ -53,9 +53,9 @@ pub record PlainFiring (N C D : Type 0) : Type 0 where
 abbrev pub firing : {N C D : Type 0} → Option Kind → List ℕ → N → List (PlainTerm N C D) → PlainFiring N C D
 firing k a r ts = record { kind = k; action = a; rule = r; arguments = ts }
 
--- a value that an effect chooses (profile): what is assigned, the name that the value has in the condition, its sort, what
--- has to be true of it, and what gives it if none is given. Beside the sort is an annotation: in a text nothing, in a
--- checked system the shape of the value.
+-- a value that an effect chooses (profile): what is assigned, the name that the value has in the condition, its sort,
+-- what has to be true of it, and what gives it if none is given. Beside the sort is an annotation: in a text nothing,
+-- in a checked system the shape of the value.
 pub record PlainChoice (N C D : Type 0) : Type 0 where
   pub target : PlainTarget N C D
   pub name : List ℕ

@@ -1,5 +1,5 @@
--- The grammar of values (profile). `SpellsValue names v xs ys` says that the tokens `xs` are a spelling of `v` and after
--- it `ys`; `names` are those of the text's constants, in order.
+-- The grammar of values (profile). `SpellsValue names v xs ys` says that the tokens `xs` are a spelling of `v` and
+-- after it `ys`; `names` are those of the text's constants, in order.
 use Rattle.std.specs.Prelude.{◌≡◌, ℕ, ℤ, pos, negsuc, neg_ℤ, nat_eq, true, false, List, ◌∷◌, Option, Some}
 use Rattle.std.specs.List.{position}
 use lib.Pointwise.{pointwise}

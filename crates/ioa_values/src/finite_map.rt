@@ -142,8 +142,8 @@ impl FiniteMap {
         value_of(&self.root, key)
     }
 
-    /// The map in which a key has a value, and every other key what it had. Costs time in proportion to the logarithm of
-    /// the size.
+    /// The map in which a key has a value, and every other key what it had. Costs time in proportion to the logarithm
+    /// of the size.
     pub fn update(&self, alloc: Global, key: &Value, value: &Value) -> Result<Self, AllocError>
         ensures { IfOk result (λ m. m ≡ with_entry key.now value.now self.now) }
     {

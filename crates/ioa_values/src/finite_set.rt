@@ -214,8 +214,8 @@ impl FiniteSet {
         })
     }
 
-    /// The order of sets: that of their ascending lists, in which the first two members that differ decide, and else the
-    /// lengths.
+    /// The order of sets: that of their ascending lists, in which the first two members that differ decide, and else
+    /// the lengths.
     #[cycle(comparing)]
     pub(crate) fn compare(&self, other: &Self) -> Ordering
         ensures { result ≡ items_cmp (items_of self.now) (items_of other.now) }
