@@ -250,32 +250,9 @@ impl Queue {
     fn after_message(&self, alloc: Global, message: &Value) -> Result<Self, StepFault>
         ensures { Answers StepFault.Memory (λ q. q) result (without_item (Item.Message message.now) self.now) }
     {
-        match self.head.kind() {
-            ChannelKind::Ordered => self.after_first(alloc, message),
-            ChannelKind::Unordered => self.after_any(alloc, message),
-        }
-    }
-
-    /// The queue without its first item, which is to be this message.
-    fn after_first(&self, alloc: Global, message: &Value) -> Result<Self, StepFault>
-        ensures { Answers StepFault.Memory (λ q. q) result
-            (and_then (items_behind (Item.Message message.now) self.now.items)
-            (λ items. Ok (queue_state self.now.component self.now.kind items))) }
-    {
-        match (self.head.as_slice(), self.messages.first()) {
-            ([], Some(first)) => {
-                if !first.equals(message) {
-                    return Err(StepFault::NotEnabled);
-                }
-                Ok(Queue {
-                    component: self.component,
-                    head: Head::Nothing(self.head.kind()),
-                    messages: self.messages.without_first(alloc)?,
-                })
-            }
-            ([], None) => Err(StepFault::NotEnabled),
-            ([_, ..], _) => Err(StepFault::NotEnabled),
-        }
+        let mut next = self.try_copy()?;
+        self.receive_over(alloc, message, &mut next)?;
+        Ok(next)
     }
 
     /// The queue without the first message that is equal to this one. It is the rare way, so its code does not stand in
@@ -347,6 +324,7 @@ impl Queue {
                 self.send_over(alloc, message, next)?;
                 Ok(())
             }
+            Action::Receive { message, .. } => self.receive_over(alloc, message, next),
             _ => {
                 *next = self.step(alloc, action)?;
                 Ok(())
@@ -363,6 +341,47 @@ impl Queue {
         next.head = self.head.try_clone()?;
         next.component = self.component;
         Ok(())
+    }
+
+    /// The queue without this message, written over another queue.
+    #[inline(always)]
+    fn receive_over(
+        &self,
+        alloc: Global,
+        message: &Value,
+        next: &mut Queue,
+    ) -> Result<(), StepFault>
+        ensures { Answers StepFault.Memory (λ _. next.new) result (without_item (Item.Message message.now) self.now) }
+    {
+        match self.head.kind() {
+            ChannelKind::Ordered => self.first_over(alloc, message, next),
+            ChannelKind::Unordered => {
+                *next = self.after_any(alloc, message)?;
+                Ok(())
+            }
+        }
+    }
+
+    /// The queue without its first item, which is to be this message, written over another queue.
+    #[inline(always)]
+    fn first_over(&self, alloc: Global, message: &Value, next: &mut Queue) -> Result<(), StepFault>
+        ensures { Answers StepFault.Memory (λ _. next.new) result
+            (and_then (items_behind (Item.Message message.now) self.now.items)
+            (λ items. Ok (queue_state self.now.component self.now.kind items))) }
+    {
+        match (self.head.as_slice(), self.messages.first()) {
+            ([], Some(first)) => {
+                if !first.equals(message) {
+                    return Err(StepFault::NotEnabled);
+                }
+                next.messages = self.messages.without_first(alloc)?;
+                next.head = Head::Nothing(self.head.kind());
+                next.component = self.component;
+                Ok(())
+            }
+            ([], None) => Err(StepFault::NotEnabled),
+            ([_, ..], _) => Err(StepFault::NotEnabled),
+        }
     }
 }
 

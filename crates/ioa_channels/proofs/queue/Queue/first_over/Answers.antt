@@ -3,7 +3,7 @@ use Rattle.std.specs.Prelude.{slice_get}
 use Rattle.ioa_values.specs.DataOrder.{same}
 use Rattle.ioa_channels.specs.Heads.{stimuli_in}
 use Rattle.ioa_channels.proofs.Parts.{another_first, no_first, no_message}
-use Rattle.ioa_channels.proofs.queue.Queue.after_first.Goals as goal
+use Rattle.ioa_channels.proofs.queue.Queue.first_over.Goals as goal
 
 pub returns-in-len1-up-default : goal.returns-in-len1-up-default
 returns-in-len1-up-default c =
