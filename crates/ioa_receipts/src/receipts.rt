@@ -1,6 +1,6 @@
 //! Receipts: what a worker gets for its commits.
 
-ghost use Rattle.std.specs.Prelude.{◌≡◌, ◌<◌, ◌∷◌, ◌++◌, [], OnErr, OnOk, length};
+ghost use Rattle.std.specs.Prelude.{◌≡◌, ◌<◌, ◌≤◌, ◌∷◌, ◌++◌, [], OnErr, OnOk, length};
 ghost use Rattle.ioa_receipts.specs.Receipts.{plain_receipts};
 
 use ioa_transitions::Entry;
@@ -57,10 +57,11 @@ impl Receipts {
         }
     }
 
-    /// Makes room for one more, if there is none.
+    /// Makes room for one more, if there is none. The room that was there stays, also if memory is refused.
     pub fn make_room(&mut self) -> Result<(), AllocError>
         ensures room { OnOk result (length self.new.all < self.new.room) }
         ensures kept { self.new.all ≡ self.old.all }
+        ensures stays { self.old.room ≤ self.new.room }
     {
         self.all.reserve(1)
     }
