@@ -8,9 +8,10 @@ use Rattle.ioa_actions.specs.declared.action.Action.{Action}
 use Rattle.ioa_actions.specs.declared.component.Component.{Component}
 use Rattle.ioa_actions.specs.declared.fault.StepFault.TheVariants.{NoChannel}
 use Rattle.ioa_actions.proofs.SameComponents.{Decides-same_component}
-use Rattle.ioa_compose.specs.Composition.{find_conf, picks_of}
+use Rattle.ioa_compose.specs.Composition.{conf_pick, find_conf, picks_of}
 use Rattle.ioa_compose.specs.Participants.{participants_of}
 use Rattle.ioa_book.specs.Looks.{PlainSnapshot}
+use Rattle.ioa_book.proofs.PickedParts.{one_proposed, two_proposed}
 use Rattle.ioa_commits.specs.Proposals.{plain_proposal}
 use Rattle.ioa_book.specs.Proposals.{find_read, step_answer}
 use Rattle.ioa_commits.specs.Versions.{PlainVersionedConf, read_component, read_confs}
@@ -50,16 +51,23 @@ found_queue k rs q found = found ∙ ap (λ (i : Component). find_read i rs) (sy
 module _ (a : Action) (s : PlainSnapshot) where
   -- the proposal of an action in which a node alone takes part
   pub alone : (k : Component) (r : PlainVersionedConf) → participants_of a ≡ k ∷ [] → find_read k s.reads ≡ Some r →
-      step_answer a s ≡ and_then (picks_of a (Some r.conf ∷ [])) (λ t. Ok (plain_proposal t.0 s.length (r ∷ [])))
-  alone k r parts found = rw (parts, found_conf k s.reads, found) refl
+      step_answer a s ≡ and_then (conf_pick a r.conf) (λ t. Ok (plain_proposal t.0 s.length (r ∷ [])))
+  alone k r parts found =
+      let picked : step_answer a s ≡ and_then (picks_of a (Some r.conf ∷ [])) (λ t. Ok (plain_proposal t.0 s.length (r ∷ []))) = rw (parts, found_conf k s.reads, found) refl in
+      picked ∙ one_proposed a r.conf s.length (r ∷ [])
 
   pub alone_missing : (k : Component) → participants_of a ≡ k ∷ [] → find_read k s.reads ≡ None → step_answer a s ≡ Err NoChannel
   alone_missing k parts found = rw (parts, found_conf k s.reads, found) refl
 
   -- and of one in which a queue and a node take part
   pub with_queue : (k j : Component) (q r : PlainVersionedConf) → participants_of a ≡ k ∷ j ∷ [] → find_read k s.reads ≡ Some q → find_read j s.reads ≡ Some r →
-      step_answer a s ≡ and_then (picks_of a (Some q.conf ∷ Some r.conf ∷ [])) (λ t. Ok (plain_proposal t.0 s.length (q ∷ r ∷ [])))
-  with_queue k j q r parts first second = rw (parts, found_conf k s.reads, found_conf j s.reads, first, second) refl
+      step_answer a s ≡ and_then (conf_pick a q.conf) (λ _. and_then (conf_pick a r.conf) (λ t. Ok (plain_proposal t.0 s.length (q ∷ r ∷ []))))
+  with_queue k j q r parts first second =
+      let picked : step_answer a s ≡ and_then (picks_of a (Some q.conf ∷ Some r.conf ∷ [])) (λ t. Ok (plain_proposal t.0 s.length (q ∷ r ∷ []))) =
+      rw (parts, found_conf k s.reads, found_conf j s.reads, first, second) refl in
+      let named : participants_of a ≡ read_component q ∷ read_component r ∷ [] =
+      found_second a (read_component q) j s.reads r (found_first a k j s.reads q parts (sym first)) (sym second) in
+      picked ∙ two_proposed a q.conf r.conf s.length (q ∷ r ∷ []) named
 
   pub queue_missing : (k j : Component) → participants_of a ≡ k ∷ j ∷ [] → find_read k s.reads ≡ None → step_answer a s ≡ Err NoChannel
   queue_missing k j parts first = rw (parts, found_conf k s.reads, found_conf j s.reads, first) refl

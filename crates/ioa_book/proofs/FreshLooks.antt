@@ -17,7 +17,7 @@ use Rattle.ioa_transitions.specs.Entries.{PlainEntry}
 use Rattle.ioa_compose.specs.Composition.{component_of, find_conf, find_confs, picks_of}
 use Rattle.ioa_compose.specs.Participants.{participants_of}
 use Rattle.ioa_compose.specs.declared.configuration.Conf.{Conf}
-use Rattle.ioa_compose.proofs.Components.{component_of-find_conf}
+use Rattle.ioa_compose.proofs.Components.{name_found}
 use Rattle.ioa_compose.proofs.SameConfs.{same_conf_is}
 use Rattle.ioa_commits.specs.Books.{PlainBook, held_of, states_held}
 use Rattle.ioa_book.specs.Looks.{snapshot_after}
@@ -111,7 +111,7 @@ test_stands test b (k ∷ ks) = by_found (find_conf k (states_held b)) refl (tes
     by_found : (o : Option Conf) → find_conf k (states_held b) ≡ o → first_refusal test b (reads_held b ks) ≡ None → first_refusal test b (one_or_none (option_map (with_version b.log) o) ++ reads_held b ks) ≡ None
     by_found None e further = further
     by_found (Some c) e further =
-        let named : component_of c ≡ k = component_of-find_conf k (states_held b) c e in
+        let named : component_of c ≡ k = name_found k (states_held b) c e in
         let there : held_of b (component_of c) ≡ Some (with_version b.log c) =
         ap (λ (j : Component). option_map (with_version b.log) (find_conf j (states_held b))) named
         ∙ ap (λ (o : Option Conf). option_map (with_version b.log) o) e in

@@ -1,4 +1,5 @@
 -- the lemmas of this crate
+pub mod PickedParts
 pub mod OwnReads
 pub mod FoundReads
 pub mod FoundNodes

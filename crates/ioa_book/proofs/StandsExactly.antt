@@ -9,7 +9,7 @@ use Rattle.ioa_actions.specs.declared.component.Component.{Component}
 use Rattle.ioa_compose.specs.Composition.{component_of, find_conf}
 use Rattle.ioa_compose.specs.SameConfs.{same_conf}
 use Rattle.ioa_compose.specs.declared.configuration.Conf.{Conf}
-use Rattle.ioa_compose.proofs.Components.{component_of-find_conf}
+use Rattle.ioa_compose.proofs.Components.{name_found}
 use Rattle.ioa_compose.proofs.SameConfs.{same_conf_is}
 use Rattle.ioa_commits.specs.Books.{PlainBook, held_of, states_held}
 use Rattle.ioa_commits.specs.Commits.{StandsIn, differs_by, first_refusal, full, refusal_by, refusal_of, stale_by, unknown_by}
@@ -49,7 +49,7 @@ stands_passed b r passed = by_found (find_conf (read_component r) (states_held b
 passed_stands : (b : PlainBook) (r : PlainVersionedConf) → StandsIn b r → (test : Test) → refusal_by test r (held_of b (read_component r)) ≡ None
 passed_stands b r s Known = rw s.there refl
 passed_stands b r s Current =
-    let named : component_of s.held ≡ read_component r = component_of-find_conf (read_component r) (states_held b) s.held s.there in
+    let named : component_of s.held ≡ read_component r = name_found (read_component r) (states_held b) s.held s.there in
     let held : r.version ≡ version (component_of s.held) b.log = s.version_read ∙ ap (λ (k : Component). version k b.log) (sym named) in
     let equal : nat_eq r.version (version (component_of s.held) b.log) ≡ true = (Decides-eqb r.version (version (component_of s.held) b.log)).1 held in
     rw (s.there, equal) refl

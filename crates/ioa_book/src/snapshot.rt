@@ -1,7 +1,6 @@
 //! Looks at a node.
 
 ghost use Rattle.std.specs.Prelude.{◌≡◌, [], ◌∷◌, IfOk, OnOk, Some, true};
-ghost use Rattle.std.specs.Arc.{arc_value};
 ghost use Rattle.std.specs.Option.{option_copied};
 ghost use Rattle.std.specs.Ordering.{int_eq};
 ghost use Rattle.ioa_values.specs.Outcome.{Answers};
@@ -20,10 +19,10 @@ use ioa_actions::{Action, Component, StepFault};
 use ioa_commits::{Proposal, VersionedConf};
 use ioa_compose::{Parties, participants};
 use ioa_sharing::Origin;
+use ioa_transitions::Entry;
 use smallvec::SmallVec;
 use std::alloc::{AllocError, Global};
 use std::marker::Model;
-use std::sync::Arc;
 
 /// What a look at a node has read: the configurations of the node, of the channels to it and from it, and of its
 /// script, each with its version, and how long the log was. It has room for as many as a node of a system of 64 nodes
@@ -142,16 +141,16 @@ impl<O: Origin> Snapshot<O> {
         None
     }
 
-    /// A proposal to take an action on what was read. `NotMine` (41) if the action is another node's than the one
+    /// A proposal to take the action of an entry on what was read; what that entry chose does not count. `NotMine` (41) if the action is another node's than the one
     /// looked at; `NoChannel` (42) if a participant was not read; else the first fault of the participants' own steps,
-    /// the queue's first. The snapshot stays as it is. The action is only lent: the proposal and the log own it beside
+    /// the queue's first. The snapshot stays as it is. The entry is only lent: the proposal and the log own it beside
     /// whoever lent it, and of one that is no step nothing is copied.
-    pub fn propose(&self, alloc: Global, action: &Arc<Action>) -> Result<Proposal<O>, StepFault>
-        ensures { Answers StepFault.Memory (λ p. p) result (spec.proposal_answer (arc_value action.now) self.now) }
+    pub fn propose(&self, alloc: Global, fired: &Entry) -> Result<Proposal<O>, StepFault>
+        ensures { Answers StepFault.Memory (λ p. p) result (spec.proposal_answer fired.now.action self.now) }
     {
         let mut rooms = Rooms::none();
-        let action = Arc::try_clone(action)?;
-        self.propose_in(alloc, action, None, &mut rooms)
+        let fired = fired.try_clone()?;
+        self.propose_in(alloc, fired, None, &mut rooms)
     }
 
     /// The same proposal, with room for it: where nobody else owns what is there, the new configurations are written
@@ -160,14 +159,14 @@ impl<O: Origin> Snapshot<O> {
     pub fn propose_in(
         &self,
         alloc: Global,
-        action: Arc<Action>,
+        fired: Entry,
         rule_number: Option<usize>,
         rooms: &mut Rooms<O>,
     ) -> Result<Proposal<O>, StepFault>
-        ensures { Answers StepFault.Memory (λ p. p) result (spec.proposal_answer (arc_value action) self.now) }
+        ensures { Answers StepFault.Memory (λ p. p) result (spec.proposal_answer fired.action self.now) }
     {
-        if is_own(&action, self.node) {
-            self.propose_step(alloc, action, rule_number, rooms)
+        if is_own(fired.action(), self.node) {
+            self.propose_step(alloc, fired, rule_number, rooms)
         } else {
             Err(StepFault::NotMine)
         }
@@ -178,16 +177,16 @@ impl<O: Origin> Snapshot<O> {
     fn propose_step(
         &self,
         alloc: Global,
-        action: Arc<Action>,
+        fired: Entry,
         rule_number: Option<usize>,
         rooms: &mut Rooms<O>,
     ) -> Result<Proposal<O>, StepFault>
-        ensures { Answers StepFault.Memory (λ p. p) result (spec.step_answer (arc_value action) self.now) }
+        ensures { Answers StepFault.Memory (λ p. p) result (spec.step_answer fired.action self.now) }
     {
-        match participants(&action) {
-            Parties::One(node) => self.propose_alone(alloc, action, rule_number, node, rooms),
+        match participants(fired.action()) {
+            Parties::One(node) => self.propose_alone(alloc, fired, rule_number, node, rooms),
             Parties::Two(queue, node) => {
-                self.propose_with(alloc, action, rule_number, queue, node, rooms)
+                self.propose_with(alloc, fired, rule_number, queue, node, rooms)
             }
         }
     }
@@ -197,18 +196,16 @@ impl<O: Origin> Snapshot<O> {
     fn propose_alone(
         &self,
         alloc: Global,
-        action: Arc<Action>,
+        fired: Entry,
         rule_number: Option<usize>,
         node: Component,
         rooms: &mut Rooms<O>,
     ) -> Result<Proposal<O>, StepFault>
-        requires { participants_of (arc_value action) ≡ node ∷ [] }
-        ensures { Answers StepFault.Memory (λ p. p) result (spec.step_answer (arc_value action) self.now) }
+        requires { participants_of fired.action ≡ node ∷ [] }
+        ensures { Answers StepFault.Memory (λ p. p) result (spec.step_answer fired.action self.now) }
     {
         match self.read_of(node) {
-            Some(node) => {
-                proposal_of_one(alloc, action, rule_number, self.length(), node, rooms)
-            }
+            Some(node) => { proposal_of_one(alloc, fired, rule_number, self.length(), node, rooms) }
             None => Err(StepFault::NoChannel),
         }
     }
@@ -218,17 +215,17 @@ impl<O: Origin> Snapshot<O> {
     fn propose_with(
         &self,
         alloc: Global,
-        action: Arc<Action>,
+        fired: Entry,
         rule_number: Option<usize>,
         queue: Component,
         node: Component,
         rooms: &mut Rooms<O>,
     ) -> Result<Proposal<O>, StepFault>
-        requires { participants_of (arc_value action) ≡ queue ∷ node ∷ [] }
-        ensures { Answers StepFault.Memory (λ p. p) result (spec.step_answer (arc_value action) self.now) }
+        requires { participants_of fired.action ≡ queue ∷ node ∷ [] }
+        ensures { Answers StepFault.Memory (λ p. p) result (spec.step_answer fired.action self.now) }
     {
         match self.read_of(queue) {
-            Some(queue) => self.propose_beside(alloc, action, rule_number, queue, node, rooms),
+            Some(queue) => self.propose_beside(alloc, fired, rule_number, queue, node, rooms),
             None => Err(StepFault::NoChannel),
         }
     }
@@ -237,20 +234,20 @@ impl<O: Origin> Snapshot<O> {
     fn propose_beside(
         &self,
         alloc: Global,
-        action: Arc<Action>,
+        fired: Entry,
         rule_number: Option<usize>,
         queue: &VersionedConf<O>,
         node: Component,
         rooms: &mut Rooms<O>,
     ) -> Result<Proposal<O>, StepFault>
-        requires parts { participants_of (arc_value action) ≡ read_component queue.now ∷ node ∷ [] }
+        requires parts { participants_of fired.action ≡ read_component queue.now ∷ node ∷ [] }
         requires found { Some queue.now ≡ spec.find_read (read_component queue.now) self.now.reads }
-        ensures { Answers StepFault.Memory (λ p. p) result (spec.step_answer (arc_value action) self.now) }
+        ensures { Answers StepFault.Memory (λ p. p) result (spec.step_answer fired.action self.now) }
     {
         match self.read_of(node) {
             Some(node) => proposal_of_two(
                 alloc,
-                action,
+                fired,
                 rule_number,
                 self.length(),
                 queue,

@@ -203,7 +203,7 @@ fn commits<O: Origin, L: Ledger, R: Wait>(
         shared.look(rt, alloc, &mut slot.pass, 0),
         Spare::make(alloc),
     ) {
-        (Ok(action), Ok(look), Ok(spare)) => match look.propose(alloc, &action) {
+        (Ok(fired), Ok(look), Ok(spare)) => match look.propose(alloc, &fired) {
             Ok(proposal) => attempts(rt, shared, slot, proposal, spare),
             Err(_) => false,
         },

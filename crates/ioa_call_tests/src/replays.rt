@@ -37,7 +37,7 @@ fn received(n: i64) -> Action {
 
 /// The entry of a step by an action.
 fn entry(alloc: Global, action: Action) -> Result<Entry, AllocError> {
-    Ok(Entry::of(Arc::new(alloc, action)?))
+    Entry::of(alloc, action)
 }
 
 /// Two sends, and the receive of the message.

@@ -4,6 +4,7 @@ use ioa_actions::Action;
 use ioa_check::check;
 use ioa_system::System;
 use ioa_text_reader::parse;
+use ioa_transitions::Entry;
 use ioa_values::Value;
 use std::alloc::{AllocError, Global};
 use std::sync::Arc;
@@ -76,7 +77,7 @@ pub(crate) fn sent(number: i64) -> Action {
     }
 }
 
-/// The same action behind a pointer.
-pub(crate) fn send(alloc: Global, number: i64) -> Result<Arc<Action>, AllocError> {
-    Ok(Arc::new(alloc, sent(number))?)
+/// An entry of the same action.
+pub(crate) fn send(alloc: Global, number: i64) -> Result<Entry, AllocError> {
+    Entry::of(alloc, sent(number))
 }

@@ -54,7 +54,7 @@ fn is_traced(
 fn begins_with(run_record: &Record, entries: &[Entry]) -> bool {
     for (position, entry) in entries.iter().enumerate() {
         match run_record.schedule.get(position) {
-            Some(taken) if taken.action().equals(entry.action()) => {}
+            Some(taken) if taken.equals(entry) => {}
             _ => return false,
         }
     }

@@ -14,10 +14,10 @@ use Rattle.ioa_actions.specs.declared.fault.StepFault.{StepFault}
 use Rattle.ioa_system.specs.Parts.{Parts}
 use Rattle.ioa_transitions.specs.Entries.{PlainEntry}
 use Rattle.ioa_transitions.specs.NodeState.{NodeState}
-use Rattle.ioa_transitions.specs.NodeAnswers.{node_answer}
+use Rattle.ioa_transitions.specs.NodeAnswers.{redo_answer}
 use Rattle.ioa_channels.specs.Queues.{QueueState, queue_answer}
 use Rattle.ioa_actions.proofs.SameComponents.{Decides-same_component, same_component-itself}
-use Rattle.ioa_transitions.proofs.NodeSteps.{program-node_answer}
+use Rattle.ioa_transitions.proofs.NodeSteps.{program-redo_answer}
 use Rattle.ioa_channels.proofs.Names.{component-queue_answer}
 use Rattle.ioa_compose.specs.Participants.{participants_of, takes_part}
 use Rattle.ioa_actions.specs.ComponentOrder.{same_component}
@@ -45,10 +45,10 @@ takes_part-is (Script k) (Stimulus a) = sym (or_false (int_eq k a.node))
 -- a component's step keeps its name
 pub component_of-conf_answer : (entry : PlainEntry) (c d : Conf) → conf_answer entry c ≡ Ok d → component_of d ≡ component_of c
 unfolding conf_answer
-component_of-conf_answer entry (conf.Node c) d h = kept (node_answer c entry.action) refl h
+component_of-conf_answer entry (conf.Node c) d h = kept (redo_answer c entry) refl h
   where
-    kept : (r : Result NodeState StepFault) → node_answer c entry.action ≡ r → and_then r (λ s. Ok (conf.Node s)) ≡ Ok d → component_of d ≡ Node c.program.node
-    kept (Ok s) e h = let same_state : conf.Node s ≡ d = cc in rw (← same_state) (ap (λ (p : Parts). Node p.node) (program-node_answer c entry.action s e))
+    kept : (r : Result NodeState StepFault) → redo_answer c entry ≡ r → and_then r (λ s. Ok (conf.Node s)) ≡ Ok d → component_of d ≡ Node c.program.node
+    kept (Ok s) e h = let same_state : conf.Node s ≡ d = cc in rw (← same_state) (ap (λ (p : Parts). Node p.node) (program-redo_answer c entry s e))
     kept (Err f) e h = absurd (cc)
 component_of-conf_answer entry (conf.Queue q) d h = kept (queue_answer q entry.action) refl h
   where
@@ -57,9 +57,9 @@ component_of-conf_answer entry (conf.Queue q) d h = kept (queue_answer q entry.a
     kept (Err f) e h = absurd (cc)
 
 -- the configuration that is found has the name
-pub component_of-find_conf : (k : Component) (cs : List Conf) (c : Conf) → find_conf k cs ≡ Some c → component_of c ≡ k
-component_of-find_conf k [] c h = absurd (cc)
-component_of-find_conf k (b ∷ cs) c h = by_test (same_component k (component_of b)) refl h (component_of-find_conf k cs c)
+pub name_found : (k : Component) (cs : List Conf) (c : Conf) → find_conf k cs ≡ Some c → component_of c ≡ k
+name_found k [] c h = absurd (cc)
+name_found k (b ∷ cs) c h = by_test (same_component k (component_of b)) refl h (name_found k cs c)
   where
     by_test : (t : Bool) → same_component k (component_of b) ≡ t → (if t then Some b else find_conf k cs) ≡ Some c → (find_conf k cs ≡ Some c → component_of c ≡ k) → component_of c ≡ k
     by_test true e h further = let this : b ≡ c = cc in rw (← this) (sym ((Decides-same_component k (component_of b)).0 e))

@@ -8,7 +8,7 @@ use Rattle.ioa_compose.specs.declared.configuration.Conf.{Conf}
 use Rattle.ioa_compose.specs.declared.configuration.Conf.TheVariants.{Node, Queue}
 use Rattle.ioa_actions.specs.declared.fault.StepFault.{StepFault}
 use Rattle.ioa_transitions.specs.NodeState.{NodeState}
-use Rattle.ioa_transitions.specs.NodeAnswers.{node_answer}
+use Rattle.ioa_transitions.specs.NodeAnswers.{redo_answer}
 use Rattle.ioa_transitions.specs.NodeStep.{IsState, IsNodeStep}
 use Rattle.ioa_channels.specs.Queues.{QueueState, queue_answer}
 use Rattle.ioa_compose.specs.Participants.{takes_part}
@@ -34,13 +34,13 @@ state_of cs s k (Queue q) h = tt
 -- what the runtime returns for a component is its step, and what the step meets lies within 64 bits
 pub is_step : (entry : PlainEntry) (c d : Conf) → IsStateOf c → conf_answer entry c ≡ Ok d → IsStep entry c d × FitsStep entry c
 unfolding conf_answer
-is_step entry (Node c) d state h = of_node (node_answer c entry.action) refl d h
+is_step entry (Node c) d state h = of_node (redo_answer c entry) refl d h
   where
-    of_node : (r : Result NodeState StepFault) → node_answer c entry.action ≡ r → (d : Conf) → and_then r (λ s. Ok (Node s)) ≡ Ok d → IsStep entry (Node c) d × FitsStep entry (Node c)
+    of_node : (r : Result NodeState StepFault) → redo_answer c entry ≡ r → (d : Conf) → and_then r (λ s. Ok (Node s)) ≡ Ok d → IsStep entry (Node c) d × FitsStep entry (Node c)
     of_node (Ok s) e (Node d) h =
         let same_state : s ≡ d = cc in
-        let step = is_node_step c entry.action s state e in
-        (subst (λ (x : NodeState). IsNodeStep entry.action c x) same_state step.0, step.1)
+        let step = is_node_step c entry s state e in
+        (subst (λ (x : NodeState). IsNodeStep entry c x) same_state step.0, step.1)
     of_node (Ok s) e (Queue r) h = absurd (cc)
     of_node (Err f) e d h = absurd (cc)
 is_step entry (Queue q) d state h = of_queue (queue_answer q entry.action) refl d h
@@ -55,14 +55,14 @@ is_step entry (Queue q) d state h = of_queue (queue_answer q entry.action) refl 
 -- and each step of a component is returned, if what it meets lies within 64 bits
 pub conf_answer-from : (entry : PlainEntry) (c d : Conf) → IsStateOf c → IsStep entry c d → FitsStep entry c → conf_answer entry c ≡ Ok d
 unfolding conf_answer
-conf_answer-from entry (Node c) (Node d) state step fits = rw (node_answer_is c entry.action d state step fits) refl
+conf_answer-from entry (Node c) (Node d) state step fits = rw (node_answer_is c entry d state step fits) refl
 conf_answer-from entry (Node c) (Queue r) state step fits = absurd step
 conf_answer-from entry (Queue q) (Node d) state step fits = absurd step
 conf_answer-from entry (Queue q) (Queue r) state step fits = rw (queue_answer-from q entry.action r step) refl
 
 -- a component has one step by an entry
 pub one_step : (entry : PlainEntry) (c d e : Conf) → IsStateOf c → IsStep entry c d → IsStep entry c e → d ≡ e
-one_step entry (Node c) (Node d) (Node e) state p q = ap Node (one_node_step entry.action c d e state p q)
+one_step entry (Node c) (Node d) (Node e) state p q = ap Node (one_node_step entry c d e state p q)
 one_step entry (Node c) (Node d) (Queue s) state p q = absurd q
 one_step entry (Node c) (Queue r) e state p q = absurd p
 one_step entry (Queue c) (Node d) e state p q = absurd p
@@ -171,7 +171,7 @@ joint_state_after entry cs next state p = record {
 }
   where
     by_old : (k : Component) (c : Conf) (d : NodeState) → find_conf k cs ≡ Some c → IsStep entry c (Node d) → IsState d
-    by_old k (Node c) d before step = state_after entry.action c d (state.nodes k c before) step
+    by_old k (Node c) d before step = state_after entry c d (state.nodes k c before) step
     by_old k (Queue q) d before step = absurd step
 
     own : (k : Component) (d : NodeState) → find_conf k next ≡ Some (Node d) → TakesStep IsStep entry k cs next → IsState d

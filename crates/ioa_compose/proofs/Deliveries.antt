@@ -8,7 +8,7 @@ use Rattle.ioa_actions.specs.declared.component.Component.{Component}
 use Rattle.ioa_actions.specs.declared.component.Component.TheVariants.{Channel, Script}
 use Rattle.ioa_actions.specs.declared.action.Action.{Action}
 use Rattle.ioa_actions.specs.declared.action.Action.TheVariants.{Send, Receive, Local, Stimulus}
-use Rattle.ioa_transitions.specs.Entries.{PlainEntry, entry_of, actions_of}
+use Rattle.ioa_transitions.specs.Entries.{PlainEntry, actions_of}
 use Rattle.ioa_channels.specs.declared.queue.Item.{Item}
 use Rattle.ioa_channels.specs.declared.queue.Item.TheVariants as item
 use Rattle.ioa_compose.specs.declared.configuration.Conf.{Conf}
@@ -27,24 +27,33 @@ use Rattle.ioa_compose.specs.Channels.{messages_sent, messages_received, HandsOu
 use Rattle.ioa_compose.specs.Scripts.{stimuli_taken, TakesInOrder}
 use Rattle.ioa_compose.proofs.Projections.{projects}
 
--- a step of a component by an action
+-- a step of a queue by an action; a node takes none
 abbrev StepsBy : Action → Conf → Conf → Type 0
-StepsBy a = IsStep (entry_of a)
+StepsBy a (Queue q) (Queue r) = IsQueueStep a q r
+StepsBy a (Queue q) (Node d) = ⊥
+StepsBy a (Node c) d = ⊥
 
 -- the actions in which a component takes part
 abbrev own_actions : Component → List Action → List Action
 own_actions k actions = filter (takes_part k) actions
 
--- a component's own execution by entries is one by their actions
-by_actions : (k : Component) (entries : List PlainEntry) (c d : Conf) → IsExecution IsStep c (projection_of k entries) d → IsExecution StepsBy c (own_actions k (actions_of entries)) d
-by_actions k [] c d h = h
-by_actions k (entry ∷ more) c d h = by_test (takes_part k entry.action) h (λ mid rest. by_actions k more mid d rest)
+-- a queue's step by an entry is one by the entry's action, to a queue
+queue_step : (entry : PlainEntry) (q : QueueState) (d : Conf) → IsStep entry (Queue q) d → (r : QueueState) × (d ≡ Queue r) × StepsBy entry.action (Queue q) (Queue r)
+queue_step entry q (Queue r) step = (r, refl, step)
+queue_step entry q (Node c) step = absurd step
+
+-- a queue's own execution by entries is one by their actions
+by_actions : (k : Component) (entries : List PlainEntry) (q : QueueState) (d : Conf) → IsExecution IsStep (Queue q) (projection_of k entries) d → IsExecution StepsBy (Queue q) (own_actions k (actions_of entries)) d
+by_actions k [] q d h = h
+by_actions k (entry ∷ more) q d h = by_test (takes_part k entry.action) h (λ r rest. by_actions k more r d rest)
   where
-    by_test : (t : Bool) → IsExecution IsStep c (if t then entry ∷ projection_of k more else projection_of k more) d →
-        ((mid : Conf) → IsExecution IsStep mid (projection_of k more) d → IsExecution StepsBy mid (own_actions k (actions_of more)) d) →
-        IsExecution StepsBy c (if t then entry.action ∷ own_actions k (actions_of more) else own_actions k (actions_of more)) d
-    by_test true h further = (h.0, h.1, further h.0 h.2)
-    by_test false h further = further c h
+    by_test : (t : Bool) → IsExecution IsStep (Queue q) (if t then entry ∷ projection_of k more else projection_of k more) d →
+        ((r : QueueState) → IsExecution IsStep (Queue r) (projection_of k more) d → IsExecution StepsBy (Queue r) (own_actions k (actions_of more)) d) →
+        IsExecution StepsBy (Queue q) (if t then entry.action ∷ own_actions k (actions_of more) else own_actions k (actions_of more)) d
+    by_test true h further =
+        let step = queue_step entry q h.0 h.1 in
+        (Queue step.0, step.2, further step.0 (subst (λ (c : Conf). IsExecution IsStep c (projection_of k more) d) step.1 h.2))
+    by_test false h further = further q h
 
 -- a queue in which messages were put, and which has handed messages out
 record Handed (q : QueueState) (sent received : List Data) (d : Conf) : Type 0 where
@@ -105,7 +114,7 @@ pub hands_out_all : (entries : List PlainEntry) (start confs : List Conf) → Is
 hands_out_all entries start confs h i j q found =
     let end = projects IsStep entries start confs h (Channel i j) (Queue q) found in
     let actions = actions_of entries in
-    let p : Handed q (messages_sent i j actions) (messages_received i j actions) end.0 = hands_out i j actions q end.0 (by_actions (Channel i j) entries (Queue q) end.0 end.2) in
+    let p : Handed q (messages_sent i j actions) (messages_received i j actions) end.0 = hands_out i j actions q end.0 (by_actions (Channel i j) entries q end.0 end.2) in
     (p.rest, end.1 ∙ ap Some p.held, p.handed_out)
 
 -- in an execution each channel that was empty hands out what is sent on it
@@ -154,5 +163,5 @@ pub takes_in_order : (entries : List PlainEntry) (start confs : List Conf) → I
 takes_in_order entries start confs h k q found =
     let end = projects IsStep entries start confs h (Script k) (Queue q) found in
     let actions = actions_of entries in
-    let p : Given q (map item.Stimulus (stimuli_taken k actions)) end.0 = gives_out k actions q end.0 (by_actions (Script k) entries (Queue q) end.0 end.2) in
+    let p : Given q (map item.Stimulus (stimuli_taken k actions)) end.0 = gives_out k actions q end.0 (by_actions (Script k) entries q end.0 end.2) in
     (p.rest, end.1 ∙ ap Some p.held, p.order)

@@ -12,7 +12,7 @@ use Rattle.ioa_compose.specs.Participants.{participants_of, takes_part}
 use Rattle.ioa_actions.specs.ComponentOrder.{same_component}
 use Rattle.ioa_compose.specs.Composition.{component_of, component_names, conf_answer, find_conf, put_conf, put_confs, find_confs, own_steps, changes_of, joint_answer}
 use Rattle.ioa_compose.specs.JointStep.{HasStep, TakesStep, IsJointStep, AllHaveSteps, HasAnswer}
-use Rattle.ioa_compose.proofs.Components.{takes_part-is, component_names-put_confs, component_of-conf_answer, component_of-find_conf, find_conf-put_conf_same, find_conf-put_conf_other, find_conf-put_confs_other}
+use Rattle.ioa_compose.proofs.Components.{takes_part-is, component_names-put_confs, component_of-conf_answer, name_found, find_conf-put_conf_same, find_conf-put_conf_other, find_conf-put_confs_other}
 use Rattle.ioa_actions.proofs.SameComponents.{Decides-same_component, same_component-itself}
 
 -- what own steps are made of: the first component's, and the others'
@@ -46,7 +46,7 @@ pub component_names-own_steps : (entry : PlainEntry) (ks : List Component) (cs d
 component_names-own_steps entry [] cs ds h = let none : [] ≡ ds = cc in rw (← none) refl
 component_names-own_steps entry (k ∷ ks) cs ds h =
     let p : StepParts entry k ks cs ds = own_steps-parts entry k ks cs ds h in
-    let name : component_of p.new ≡ k = component_of-conf_answer entry p.old p.new p.step ∙ component_of-find_conf k cs p.old p.found in
+    let name : component_of p.new ≡ k = component_of-conf_answer entry p.old p.new p.step ∙ name_found k cs p.old p.found in
     let others : component_names p.more ≡ ks = component_names-own_steps entry ks cs p.more p.others in
     rw (p.all, name, others) refl
 
@@ -87,7 +87,7 @@ own_step : (k : Component) (entry : PlainEntry) (ks : List Component) (cs ds : L
 own_step k entry [] cs ds c h found part held b there = absurd (cc)
 own_step k entry (l ∷ ks) cs ds c h found part held b there =
     let p : StepParts entry l ks cs ds = own_steps-parts entry l ks cs ds h in
-    let name : component_of p.new ≡ l = component_of-conf_answer entry p.old p.new p.step ∙ component_of-find_conf l cs p.old p.found in
+    let name : component_of p.new ≡ l = component_of-conf_answer entry p.old p.new p.step ∙ name_found l cs p.old p.found in
     let further : (now : List Conf) (e : Conf) → find_conf k now ≡ Some e → list_any (same_component k) ks ≡ true → StepsTo entry c k (put_confs p.more now) =
     λ now e at_now part. own_step k entry ks cs p.more c p.others found part now e at_now in
     rw p.all (by_test p.old p.new p.more p.found p.step p.others name further (same_component k l) refl part)

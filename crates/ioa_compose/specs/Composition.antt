@@ -13,7 +13,7 @@ use Rattle.ioa_compose.specs.declared.configuration.Conf.TheVariants.{Node, Queu
 use Rattle.ioa_actions.specs.declared.fault.StepFault.{StepFault}
 use Rattle.ioa_actions.specs.declared.fault.StepFault.TheVariants.{NoChannel}
 use Rattle.ioa_transitions.specs.Entries.{PlainEntry, entry_of}
-use Rattle.ioa_transitions.specs.NodeAnswers.{node_answer}
+use Rattle.ioa_transitions.specs.NodeAnswers.{pick_answer, redo_answer}
 use Rattle.ioa_channels.specs.Queues.{queue_answer}
 use Rattle.ioa_compose.specs.Participants.{participants_of}
 use Rattle.ioa_actions.specs.ComponentOrder.{same_component}
@@ -29,8 +29,14 @@ component_names cs = map component_of cs
 
 -- the result of an entry at a component: its configuration after its own step, or why there is no step (Lynch 8.1)
 unfoldable pub conf_answer : PlainEntry → Conf → Result Conf StepFault
-conf_answer e (Node c) = and_then (node_answer c e.action) (λ d. Ok (Node d))
+conf_answer e (Node c) = and_then (redo_answer c e) (λ d. Ok (Node d))
 conf_answer e (Queue q) = and_then (queue_answer q e.action) (λ r. Ok (Queue r))
+
+-- what a component picks for an action: the entry of its own step by it, and its configuration after that (form). A
+-- queue chooses nothing.
+unfoldable pub conf_pick : Action → Conf → Result (PlainEntry × Conf) StepFault
+conf_pick a (Node c) = and_then (pick_answer c a) (λ t. Ok (t.0, Node t.1))
+conf_pick a (Queue q) = and_then (queue_answer q a) (λ r. Ok (entry_of a, Queue r))
 
 -- the configuration of a component, if there is one
 abbrev pub find_conf : Component → List Conf → Option Conf
@@ -64,9 +70,19 @@ changes_of e rs = if list_any is_none rs then Err NoChannel else own_steps e rs
 abbrev pub joint_answer : PlainEntry → List Conf → Result (List Conf) StepFault
 joint_answer e cs = and_then (changes_of e (find_confs (participants_of e.action) cs)) (λ ds. Ok (put_confs ds cs))
 
--- what the participants of an action pick: the entry of a step by it, and their new configurations (form)
+-- what the participants of an action pick: the entry of a step by it, which has the values that the node chose, and
+-- their new configurations; or the first fault among them (form)
+abbrev pub own_picks : Action → List (Option Conf) → Result (PlainEntry × List Conf) StepFault
+own_picks a [] = Ok (entry_of a, [])
+own_picks a (None ∷ more) = Err NoChannel
+own_picks a (Some (Queue q) ∷ more) =
+    and_then (queue_answer q a) (λ r. and_then (own_picks a more) (λ t. Ok (t.0, Queue r ∷ t.1)))
+own_picks a (Some (Node c) ∷ more) =
+    and_then (pick_answer c a) (λ t. and_then (own_steps t.0 more) (λ ds. Ok (t.0, Node t.1 ∷ ds)))
+
+-- the same; a missing component is the fault before any other
 abbrev pub picks_of : Action → List (Option Conf) → Result (PlainEntry × List Conf) StepFault
-picks_of a rs = and_then (changes_of (entry_of a) rs) (λ ds. Ok (entry_of a, ds))
+picks_of a rs = if list_any is_none rs then Err NoChannel else own_picks a rs
 
 -- what the composition picks for an action: the entry of a joint step by it, and the configurations after that (form)
 abbrev pub joint_pick : Action → List Conf → Result (PlainEntry × List Conf) StepFault

@@ -7,12 +7,12 @@ use Rattle.ioa_channels.specs.QueueSteps.{IsQueueStep}
 
 -- a step of a component from one configuration to another: of a node, or of a queue
 abbrev pub IsStep : PlainEntry → Conf → Conf → Type 0
-IsStep e (Node c) (Node d) = IsNodeStep e.action c d
+IsStep e (Node c) (Node d) = IsNodeStep e c d
 IsStep e (Node c) (Queue r) = ⊥
 IsStep e (Queue q) (Node d) = ⊥
 IsStep e (Queue q) (Queue r) = IsQueueStep e.action q r
 
 -- every number that a step of a component meets lies within 64 bits (profile)
 abbrev pub FitsStep : PlainEntry → Conf → Type 0
-FitsStep e (Node c) = FitsNodeStep e.action c
+FitsStep e (Node c) = FitsNodeStep e c
 FitsStep e (Queue q) = Unit {0}

@@ -1,41 +1,48 @@
 //! Joint steps of a system's components.
 
-ghost use Rattle.std.specs.Prelude.{◌≡◌, IfOk};
+ghost use Rattle.std.specs.Prelude.{◌≡◌, IfOk, IfSome, [], ◌∷◌, Some};
 ghost use Rattle.std.specs.List.{position_from};
 ghost use Rattle.std.specs.Option.{option_copied};
 ghost use Rattle.ioa_values.specs.Outcome.{Answers};
 ghost use Rattle.ioa_compose.specs.Participants.{participants_of};
 ghost use Rattle.ioa_actions.specs.ComponentOrder.{same_component};
 ghost use Rattle.ioa_compose.specs.Composition.{component_of, find_conf, put_conf, put_confs};
-ghost use Rattle.ioa_compose.specs.Composition.{find_confs, changes_of, joint_answer, joint_pick};
-ghost use Rattle.ioa_transitions.specs.Entries.{entry_of};
+ghost use Rattle.ioa_compose.specs.Composition.{find_confs, changes_of, joint_answer, joint_pick, picks_of};
+ghost use Rattle.ioa_transitions.specs.Entries.{entry};
 
 use crate::configuration::Conf;
 use crate::parties::{Parties, participants};
 use ioa_actions::{Action, Component, StepFault};
 use ioa_transitions::Entry;
+use ioa_values::Value;
 use std::alloc::{AllocError, Global};
 
 /// The configuration of a component; the first one if several bear its name.
+#[tactic(auto, using(crate::proofs::Components::name_found))]
 pub fn find_conf(confs: &[Conf], component: Component) -> Option<&Conf>
-    ensures { option_copied result ≡ find_conf component confs.now }
+    ensures found { option_copied result ≡ find_conf component confs.now }
+    ensures name { IfSome result (λ c. component_of c.now ≡ component) }
 {
     confs.iter().find(|conf| component == conf.component())
 }
 
-/// The new configurations of the participants of an action, the queue's first. `NoChannel` (42) if one of them has
-/// no configuration; else the first fault of their own steps, the queue's first.
-pub fn changes(alloc: Global, confs: &[Conf], action: &Action) -> Result<Vec<Conf>, StepFault>
-    ensures { Answers StepFault.Memory (λ v. v.items) result
-        (changes_of (entry_of action.now) (find_confs (participants_of action.now) confs.now)) }
+/// The new configurations of the participants of an action, the queue's first, and the values that the node's effect
+/// chose by its own terms, in order. `NoChannel` (42) if a participant has no configuration; else the first fault of
+/// their own steps, the queue's first.
+pub fn pick(
+    alloc: Global,
+    confs: &[Conf],
+    action: &Action,
+) -> Result<(Vec<Conf>, Vec<Value>), StepFault>
+    ensures { Answers StepFault.Memory (λ t. (entry action.now t.1.items, t.0.items)) result
+        (picks_of action.now (find_confs (participants_of action.now) confs.now)) }
 {
-    let mut changed = Vec::new(alloc);
     match participants(action) {
         Parties::One(node) => {
             let Some(node) = find_conf(confs, node) else {
                 return Err(StepFault::NoChannel);
             };
-            changed.push(node.step(alloc, action)?)?;
+            one_pick(alloc, action, node)
         }
         Parties::Two(queue, node) => {
             let Some(queue) = find_conf(confs, queue) else {
@@ -44,8 +51,70 @@ pub fn changes(alloc: Global, confs: &[Conf], action: &Action) -> Result<Vec<Con
             let Some(node) = find_conf(confs, node) else {
                 return Err(StepFault::NoChannel);
             };
-            changed.push(queue.step(alloc, action)?)?;
-            changed.push(node.step(alloc, action)?)?;
+            two_picks(alloc, action, queue, node)
+        }
+    }
+}
+
+/// What one participant picks.
+#[tactic(auto, using(crate::proofs::Picks::one_pick))]
+fn one_pick(
+    alloc: Global,
+    action: &Action,
+    node: &Conf,
+) -> Result<(Vec<Conf>, Vec<Value>), StepFault>
+    ensures { Answers StepFault.Memory (λ t. (entry action.now t.1.items, t.0.items)) result
+        (picks_of action.now (Some node.now ∷ [])) }
+{
+    let (next, chosen) = node.step(alloc, action)?;
+    let mut changed = Vec::new(alloc);
+    changed.push(next)?;
+    Ok((changed, chosen))
+}
+
+/// What two participants pick.
+#[tactic(auto, using(crate::proofs::Picks::two_picks))]
+fn two_picks(
+    alloc: Global,
+    action: &Action,
+    queue: &Conf,
+    node: &Conf,
+) -> Result<(Vec<Conf>, Vec<Value>), StepFault>
+    requires { participants_of action.now ≡ component_of queue.now ∷ component_of node.now ∷ [] }
+    ensures { Answers StepFault.Memory (λ t. (entry action.now t.1.items, t.0.items)) result
+        (picks_of action.now (Some queue.now ∷ Some node.now ∷ [])) }
+{
+    let (next_queue, _) = queue.step(alloc, action)?;
+    let (next_node, chosen) = node.step(alloc, action)?;
+    let mut changed = Vec::new(alloc);
+    changed.push(next_queue)?;
+    changed.push(next_node)?;
+    Ok((changed, chosen))
+}
+
+/// The new configurations of the participants of an entry, which is taken again, the queue's first. The faults are
+/// those of `pick`.
+pub fn changes(alloc: Global, confs: &[Conf], entry: &Entry) -> Result<Vec<Conf>, StepFault>
+    ensures { Answers StepFault.Memory (λ v. v.items) result
+        (changes_of entry.now (find_confs (participants_of entry.now.action) confs.now)) }
+{
+    let mut changed = Vec::new(alloc);
+    match participants(entry.action()) {
+        Parties::One(node) => {
+            let Some(node) = find_conf(confs, node) else {
+                return Err(StepFault::NoChannel);
+            };
+            changed.push(node.redo(alloc, entry)?)?;
+        }
+        Parties::Two(queue, node) => {
+            let Some(queue) = find_conf(confs, queue) else {
+                return Err(StepFault::NoChannel);
+            };
+            let Some(node) = find_conf(confs, node) else {
+                return Err(StepFault::NoChannel);
+            };
+            changed.push(queue.redo(alloc, entry)?)?;
+            changed.push(node.redo(alloc, entry)?)?;
         }
     }
     Ok(changed)
@@ -89,26 +158,33 @@ pub fn copy_confs(alloc: Global, confs: &[Conf]) -> Result<Vec<Conf>, AllocError
 }
 
 /// The configurations after a joint step that an action is picked for: each participant takes its own step, and all
-/// others stay (Lynch 8.2). `NoChannel` (42) if a participant is no component; else the first fault of the
-/// participants' own steps, the queue's first.
-pub fn joint_step(alloc: Global, confs: &[Conf], action: &Action) -> Result<Vec<Conf>, StepFault>
-    ensures { Answers StepFault.Memory (λ v. (entry_of action.now, v.items)) result (joint_pick action.now confs.now) }
+/// others stay (Lynch 8.2); and the values that the node's effect chose by its own terms, in order. `NoChannel` (42) if
+/// a participant is no component; else the first fault of the participants' own steps, the queue's first.
+pub fn joint_step(
+    alloc: Global,
+    confs: &[Conf],
+    action: &Action,
+) -> Result<(Vec<Conf>, Vec<Value>), StepFault>
+    ensures { Answers StepFault.Memory (λ t. (entry action.now t.1.items, t.0.items)) result
+        (joint_pick action.now confs.now) }
 {
-    all_after(alloc, confs, action)
+    let (changed, chosen) = pick(alloc, confs, action)?;
+    let next = with_confs(alloc, confs, changed)?;
+    Ok((next, chosen))
 }
 
 /// The configurations after the joint step by an entry, which is taken again. The faults are those of `joint_step`.
 pub fn joint_redo(alloc: Global, confs: &[Conf], entry: &Entry) -> Result<Vec<Conf>, StepFault>
     ensures { Answers StepFault.Memory (λ v. v.items) result (joint_answer entry.now confs.now) }
 {
-    all_after(alloc, confs, entry.action())
+    let changed = changes(alloc, confs, entry)?;
+    Ok(with_confs(alloc, confs, changed)?)
 }
 
-/// The configurations after the joint step by an action.
-fn all_after(alloc: Global, confs: &[Conf], action: &Action) -> Result<Vec<Conf>, StepFault>
-    ensures { Answers StepFault.Memory (λ v. v.items) result (joint_answer (entry_of action.now) confs.now) }
+/// The same configurations, but for these.
+fn with_confs(alloc: Global, confs: &[Conf], changed: Vec<Conf>) -> Result<Vec<Conf>, AllocError>
+    ensures { IfOk result (λ v. v.items ≡ put_confs changed.items confs.now) }
 {
-    let changed = changes(alloc, confs, action)?;
     let mut next = copy_confs(alloc, confs)?;
     put_confs(&mut next, changed);
     Ok(next)

@@ -18,7 +18,7 @@ mod replaying;
 mod starting;
 
 pub use composition::{
-    changes, copy_confs, find_conf, joint_redo, joint_step, put_conf, put_confs,
+    changes, copy_confs, find_conf, joint_redo, joint_step, pick, put_conf, put_confs,
 };
 pub use configuration::Conf;
 pub use laws::{

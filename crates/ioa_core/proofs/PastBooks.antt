@@ -13,7 +13,7 @@ use Rattle.ioa_compose.specs.Executions.{replay}
 use Rattle.ioa_compose.specs.Participants.{takes_part}
 use Rattle.ioa_compose.specs.SameConfs.{same_conf}
 use Rattle.ioa_compose.specs.declared.configuration.Conf.{Conf}
-use Rattle.ioa_compose.proofs.Components.{component_of-find_conf}
+use Rattle.ioa_compose.proofs.Components.{name_found}
 use Rattle.ioa_compose.proofs.SameConfs.{same_conf_is}
 use Rattle.ioa_commits.specs.Books.{PlainBook, held_of, states_held}
 use Rattle.ioa_commits.specs.Commits.{differs_by, first_refusal, full, refusal_of, stale_by, unknown_by}
@@ -74,7 +74,7 @@ module _ (b : PlainBook) (n : ℕ) (leads : replay b.log b.start ≡ Some (state
     read = with_version (take n b.log) c
 
     named : component_of c ≡ k
-    named = component_of-find_conf k (states_held (book_at b n)) c found
+    named = name_found k (states_held (book_at b n)) c found
 
     known_one : unknown_by read (held_of b (component_of c)) ≡ None
     known_one = subst (λ (j : Component). unknown_by read (held_of b j) ≡ None) (sym named) (by_now (find_conf k (states_held b)) (still_there k c found))
@@ -99,7 +99,7 @@ module _ (b : PlainBook) (n : ℕ) (leads : replay b.log b.start ≡ Some (state
         by_now (Some d) e h =
             stale_named read (with_version b.log d) k (version k (take n b.log)) (version k b.log) named
             (ap (λ (j : Component). version j (take n b.log)) named)
-            (ap (λ (j : Component). version j b.log) (component_of-find_conf k (states_held b) d e))
+            (ap (λ (j : Component). version j b.log) (name_found k (states_held b) d e))
             ∙ by_touched (touched b.log n k) refl
 
     same_one : touched b.log n k ≡ false → differs_by read (held_of b (component_of c)) ≡ None

@@ -11,9 +11,9 @@ ghost use Rattle.ioa_core.specs.declared.hand.Hand.{Hand};
 use ioa_actions::{Action, StepFault};
 use ioa_book::{Book, LookFault, Proposal, Snapshot};
 use ioa_sharing::Origin;
+use ioa_transitions::Entry;
 use std::alloc::{AllocError, Global};
 use std::mem;
-use std::sync::Arc;
 
 /// What a hand holds. A look is large, and stands behind a pointer.
 #[derive(Drop)]
@@ -128,8 +128,8 @@ fn draw_on<O: Origin>(
     ensures drawn { IfOk result (λ d. d ≡ drawn_on (proposal_answer action.now look.now)) }
     ensures calm { IfOk result (λ d. is_refused_for_memory d ≡ false) }
 {
-    let action = Arc::new(alloc, action.try_copy(alloc)?)?;
-    match look.propose(alloc, &action) {
+    let fired = Entry::of(alloc, action.try_copy(alloc)?)?;
+    match look.propose(alloc, &fired) {
         Ok(proposal) => Ok(Drawn::Proposal(proposal)),
         Err(StepFault::Memory) => Err(AllocError),
         Err(fault) => Ok(Drawn::Refused(fault)),

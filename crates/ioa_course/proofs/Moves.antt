@@ -10,7 +10,7 @@ use Rattle.ioa_actions.specs.declared.fault.StepFault.TheVariants.{Memory, NoCha
 use Rattle.ioa_transitions.specs.Entries.{PlainEntry}
 use Rattle.ioa_compose.specs.Composition.{changes_of, component_names, component_of, conf_answer, find_conf, joint_answer, put_conf, put_confs}
 use Rattle.ioa_compose.specs.declared.configuration.Conf.{Conf}
-use Rattle.ioa_compose.proofs.Components.{component_of-conf_answer, component_of-find_conf}
+use Rattle.ioa_compose.proofs.Components.{component_of-conf_answer, name_found}
 use Rattle.ioa_compose.proofs.JointSteps.{component_names-joint_answer}
 use Rattle.ioa_course.specs.Courses.{moved}
 
@@ -23,7 +23,7 @@ names_kept (Err f) e cs next answer kept = ap component_names kept
 pub next_place : (e : PlainEntry) (k : Component) (m : ℕ) (ks : List Component) (cs held : List Conf) (c d : Conf) → ks ≡ component_names cs → Some m ≡ position_from (λ j. same_component k j) 0 ks → find_conf k cs ≡ Some c → conf_answer e c ≡ Ok d →
     component_names held ≡ component_names cs → Some m ≡ position_from (λ j. same_component (component_of d) j) 0 (component_names held)
 next_place e k m ks cs held c d names place found step same_names =
-    let name : component_of d ≡ k = component_of-conf_answer e c d step ∙ component_of-find_conf k cs c found in
+    let name : component_of d ≡ k = component_of-conf_answer e c d step ∙ name_found k cs c found in
     rw (name, same_names, ← names) place
 
 -- a node alone: it is not there, and its step

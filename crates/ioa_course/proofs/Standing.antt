@@ -7,7 +7,7 @@ use Rattle.ioa_actions.specs.ComponentOrder.{same_component}
 use Rattle.ioa_actions.specs.declared.component.Component.{Component}
 use Rattle.ioa_compose.specs.Composition.{component_names, component_of, find_conf, put_conf}
 use Rattle.ioa_compose.specs.declared.configuration.Conf.{Conf}
-use Rattle.ioa_compose.proofs.Components.{component_of-find_conf}
+use Rattle.ioa_compose.proofs.Components.{name_found}
 use Rattle.ioa_compose.proofs.Positions.{position-within, put_conf-position}
 use Rattle.ioa_index.proofs.Slots.{position_get, position_none}
 
@@ -42,7 +42,7 @@ stands_in k m ks cs names place =
       conf = there.0;
       found = there.1;
       at = position_get (λ j. same_component k j) component_of [] cs m (sym at_names) ∙ there.1;
-      within = position-within there.0 cs k m (sym (component_of-find_conf k cs there.0 there.1)) (at_names ∙ position_names k 0 cs);
+      within = position-within there.0 cs k m (sym (name_found k cs there.0 there.1)) (at_names ∙ position_names k 0 cs);
     }
 
 -- what is read in the slot of a component is its configuration

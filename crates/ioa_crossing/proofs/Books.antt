@@ -45,10 +45,10 @@ pub queue_sync : IsSync (Queue.the_field).row
 queue_sync = search (owners, knot.crosses, node_action_send, node_action_sync, crosses, sendable) depth 60 fits 20000
 
 pub entry_send : IsSend (Entry.the_field).row
-entry_send = search (action_send, action_sync, crosses, sendable) depth 60 fits 20000
+entry_send = search (owners, action_send, action_sync, value_send, value_sync, crosses, sendable) depth 60 fits 20000
 
 pub entry_sync : IsSync (Entry.the_field).row
-entry_sync = search (action_send, action_sync, crosses, sendable) depth 60 fits 20000
+entry_sync = search (owners, action_send, action_sync, value_send, value_sync, crosses, sendable) depth 60 fits 20000
 
 pub node_conf_send : IsSend (NodeConf.the_field).row
 node_conf_send = search (program_send, program_sync, value_send, crosses, sendable) depth 60 fits 20000

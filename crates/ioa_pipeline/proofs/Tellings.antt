@@ -7,7 +7,7 @@ use Rattle.ioa_system.specs.Systems.{SystemParts}
 use Rattle.ioa_record.specs.declared.ending.Ending.{Ending}
 use Rattle.ioa_record.specs.declared.record.Record.{Record}
 use Rattle.ioa_actions.specs.ActionParts.{node_of}
-use Rattle.ioa_transitions.specs.Entries.{PlainEntry, entry_of}
+use Rattle.ioa_transitions.specs.Entries.{PlainEntry}
 use Rattle.ioa_paper.specs.Papers.{Ended, PlainPaper, and_text}
 use Rattle.ioa_show.specs.Shown.{Continues}
 use Rattle.ioa_tell.specs.Events.{PlainEvent, taken, missed, faulted, unfit, stuck, idle, stopped, ended}
@@ -41,7 +41,7 @@ other_kept names p (Some w) paper = unless_kept (same_passing w.passing p) paper
 event_kept : (e : PlainEvent) (t : PlainTeller) → Continues t.paper (teller_after e t).paper
 event_kept (taken k e before after queue) t = waiting_kept t.names (find (is_of (node_of e.action)) t.waiting) t.paper
 event_kept (missed k a r) t =
-    other_kept t.names (Missed (entry_of a) (why_of t.names r)) (find (is_of (node_of a)) t.waiting) t.paper
+    other_kept t.names (Missed a (why_of t.names r)) (find (is_of (node_of a)) t.waiting) t.paper
 event_kept (faulted k a place f) t = waiting_kept t.names (find (is_of (node_of a)) t.waiting) t.paper
 event_kept (unfit k a w v) t = waiting_kept t.names (find (is_of (node_of a)) t.waiting) t.paper
 event_kept (stuck k n place f) t = waiting_kept t.names (find (is_of n) t.waiting) t.paper

@@ -103,7 +103,7 @@ fn has(place: &Option<&Entry>, entry: &Entry) -> bool
     ensures { IsTrue result ↔ (option_copied place.now ≡ Some entry.now) }
 {
     match place {
-        Some(found) => found.action().equals(entry.action()),
+        Some(found) => found.equals(entry),
         None => false,
     }
 }

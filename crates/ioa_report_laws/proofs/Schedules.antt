@@ -2,6 +2,7 @@
 use Rattle.std.proofs.Common.{◌≡◌, ◌≤◌, ◌+◌, ℕ, List, [], ◌∷◌, ◌++◌, Some, Ok, append_assoc, codes, decimal, refl, sym, ap, subst, ◌∙◌, arith, length, map}
 use Rattle.std.specs.List.{AllByRecursion}
 use Rattle.std.proofs.lemmas.List.{length-map}
+use Rattle.ioa_values.specs.Data.{Data}
 use Rattle.ioa_tokens.specs.Lexeme.{greatest_number}
 use Rattle.ioa_actions.specs.ActionText.{action_text}
 use Rattle.ioa_actions.specs.declared.action.Action.{Action}
@@ -9,7 +10,7 @@ use Rattle.ioa_source.specs.Sides.{SourceText}
 use Rattle.ioa_system.specs.Systems.{SystemParts}
 use Rattle.ioa_text_reader.specs.Texts.{TextSpells}
 use Rattle.ioa_check.specs.Systems.{IsSystemOf}
-use Rattle.ioa_transitions.specs.Entries.{PlainEntry, actions_of, entry_of}
+use Rattle.ioa_transitions.specs.Entries.{PlainEntry, actions_of, entry, entry_of}
 use Rattle.ioa_compose.specs.Executions.{replay}
 use Rattle.ioa_compose.specs.Start.{start}
 use Rattle.ioa_compose.specs.declared.configuration.Conf.{Conf}
@@ -49,10 +50,10 @@ stands s r endings = (states ++ (ended ++ (commits ++ verdicts)), joined (schedu
     verdicts : List ℕ
     verdicts = invariant_lines s.invariants (verdicts_of s r.schedule)
 
--- and entries are those of their actions
-same_entries : (es : List PlainEntry) → map entry_of (actions_of es) ≡ es
-same_entries [] = refl
-same_entries (e ∷ more) = ap (λ rest. e ∷ rest) (same_entries more)
+-- and entries that are taken are those of their actions
+same_entries : (s : SystemParts) (es : List PlainEntry) → AllByRecursion (IsTaken s) es → map entry_of (actions_of es) ≡ es
+same_entries s [] taken = refl
+same_entries s (e ∷ more) taken = ap (λ (vs : List Data). entry e.action vs ∷ map entry_of (actions_of more)) (sym taken.0.chosen) ∙ ap (λ rest. e ∷ rest) (same_entries s more taken.1)
 
 -- they are as few
 few_actions : (es : List PlainEntry) → length es ≤ greatest_number → 0 + length (actions_of es) ≤ greatest_number
@@ -62,7 +63,7 @@ few_lines : (limit : ℕ) (es : List PlainEntry) → length es ≤ limit → lim
 few_lines limit es within low = omega (arith, within, low)
 
 -- each may be taken
-may_take : (s : SystemParts) (es : List PlainEntry) → AllByRecursion (λ e. IsTaken s e.action) es → AllByRecursion (λ e. HasRuntimeValues e.action) es → AllByRecursion (MayTake s) (actions_of es)
+may_take : (s : SystemParts) (es : List PlainEntry) → AllByRecursion (IsTaken s) es → AllByRecursion (λ e. HasRuntimeValues e.action) es → AllByRecursion (MayTake s) (actions_of es)
 may_take s [] taken values = tt
 may_take s (e ∷ more) taken values = (
   record { taken = taken.0.action; message = taken.0.message; bounded = values.0.bounded; canonical = values.0.canonical },
@@ -72,12 +73,13 @@ may_take s (e ∷ more) taken values = (
 -- a schedule whose lines are read back
 record IsPrinted (s : SystemParts) (es : List PlainEntry) : Type 0 where
   pub system : IsTextSystem s
+  pub same : map entry_of (actions_of es) ≡ es
   pub may : AllByRecursion (MayTake s) (actions_of es)
   pub few : 0 + length (actions_of es) ≤ greatest_number
 
--- a replay takes actions of its system
+-- a replay takes the entries of its system
 abbrev pub TakenLaw : Type 0
-TakenLaw = (p : SourceText) (s : SystemParts) (es : List PlainEntry) (cs : List Conf) → IsSystemOf p s → replay es (start s) ≡ Some cs → AllByRecursion (λ e. IsTaken s e.action) es
+TakenLaw = (p : SourceText) (s : SystemParts) (es : List PlainEntry) (cs : List Conf) → IsSystemOf p s → replay es (start s) ≡ Some cs → AllByRecursion (IsTaken s) es
 
 -- texts have systems whose actions can be printed
 abbrev pub TextLaw : Type 0
@@ -88,9 +90,11 @@ printed : TakenLaw → TextLaw → (text : List ℕ) (s : SystemParts) (r : Reco
 printed taken of_text text s r h =
     let run = h.run in
     let replayed = run.run.left.replayed in
+    let all = taken run.source s r.schedule r.states.items run.system replayed.leads in
     record {
       system = of_text run.source text s run.spelled run.system;
-      may = may_take s r.schedule (taken run.source s r.schedule r.states.items run.system replayed.leads) h.values;
+      same = same_entries s r.schedule all;
+      may = may_take s r.schedule all h.values;
       few = few_actions r.schedule (few_lines h.limit r.schedule replayed.within h.low);
     }
 
@@ -118,7 +122,7 @@ report_execution taken of_text law text s r h = record {
   actions = actions_of r.schedule;
   spelled = report_spelled taken of_text law text s r h;
   states = r.states.items;
-  replayed = subst (λ (es : List PlainEntry). replay es (start s) ≡ Some r.states.items) (sym (same_entries r.schedule)) h.run.run.left.replayed.leads;
+  replayed = subst (λ (es : List PlainEntry). replay es (start s) ≡ Some r.states.items) (sym (printed taken of_text text s r h).same) h.run.run.left.replayed.leads;
 }
 
 -- which the check of schedules accepts

@@ -1,5 +1,5 @@
--- Each action of an execution of an accepted system is one of the system's, and none but sends and receives has the
--- name of messages.
+-- Each action of an execution of an accepted system is one of the system's, none but sends and receives has the name of
+-- messages, and no entry has a chosen value.
 use Rattle.std.proofs.Common.{◌≡◌, ℕ, ℤ, true, false, List, [], ◌∷◌, inl, inr, refl, sym, subst, ◌∙◌}
 use Rattle.std.specs.List.{AllByRecursion, AllZip}
 use Rattle.std.specs.Ordering.{int_eq}
@@ -14,9 +14,7 @@ use Rattle.ioa_terms.specs.Sorted.{IsShaped, NameShapes}
 use Rattle.ioa_terms.specs.declared.tree.Kind.{Kind}
 use Rattle.ioa_terms.specs.declared.tree.Kind.TheVariants.{Input, Internal, Output}
 use Rattle.ioa_terms.proofs.Sound.{value_has}
-use Rattle.ioa_actions.specs.ActionParts.{action_arguments, action_name, node_of}
-use Rattle.ioa_actions.specs.declared.component.Component.{Component}
-use Rattle.ioa_actions.specs.declared.component.Component.TheVariants as component
+use Rattle.ioa_actions.specs.ActionParts.{action_arguments, action_name}
 use Rattle.ioa_actions.specs.declared.action.Action.{Action}
 use Rattle.ioa_actions.specs.declared.action.Action.TheVariants.{Local, Receive, Send, Stimulus}
 use Rattle.ioa_source.specs.PlainText.{const, named}
@@ -25,35 +23,29 @@ use Rattle.ioa_system.specs.Declarations.{DeclaresOnce, IsWellDeclared}
 use Rattle.ioa_system.specs.InView.{entry_constant, given_bindings}
 use Rattle.ioa_system.specs.Parts.{AutomatonParts, Parts, PlainRule, rule_named}
 use Rattle.ioa_system.specs.Systems.{SystemParts, program_numbered}
-use Rattle.ioa_sorts.proofs.Lookups.{contained_found, contained_has, found_has}
+use Rattle.ioa_sorts.proofs.Lookups.{contained_found, contained_has}
 use Rattle.ioa_types.specs.TypeTables.{TypeTable}
 use Rattle.ioa_automata.specs.SortedAutomata.{AreParametersOf, IsParameterOf, IsRuleOf, IsWellNamed, names_at}
 use Rattle.ioa_check.specs.Systems.{IsSystemOf}
 use Rattle.ioa_check.proofs.Declared.{declared_once}
 use Rattle.ioa_lines.specs.Lines.{is_input}
 use Rattle.ioa_transitions.specs.Entries.{PlainEntry}
-use Rattle.ioa_transitions.specs.NodeState.{NodeState}
-use Rattle.ioa_transitions.specs.NodeStep.{IsNodeStep, IsOfKind, TakesArgument}
+use Rattle.ioa_transitions.specs.NodeStep.{HasRule, IsOfKind, TakesArgument}
 use Rattle.ioa_compose.specs.Automata.{IsExecution}
-use Rattle.ioa_compose.specs.Composition.{component_of}
-use Rattle.ioa_actions.specs.ComponentOrder.{same_component}
 use Rattle.ioa_compose.specs.Executions.{replay}
-use Rattle.ioa_compose.specs.JointStep.{IsJointState, IsJointStep, TakesStep}
+use Rattle.ioa_compose.specs.JointStep.{IsJointStep}
 use Rattle.ioa_compose.specs.Start.{start}
 use Rattle.ioa_compose.specs.Steps.{IsStep}
 use Rattle.ioa_compose.specs.declared.configuration.Conf.{Conf}
-use Rattle.ioa_compose.specs.declared.configuration.Conf.TheVariants.{Node, Queue}
-use Rattle.ioa_compose.proofs.Components.{component_of-find_conf}
-use Rattle.ioa_compose.proofs.Compositions.{joint_state_after}
 use Rattle.ioa_compose.proofs.Projections.{replays}
 use Rattle.ioa_compose.proofs.Starts.{start_state}
-use Rattle.ioa_run_laws.specs.Shaped.{AreShaped, IsShapedConf, IsShapedNode, IsShapedQueue}
 use Rattle.ioa_run_laws.proofs.Accepted.{IsAcceptedProgram, is_accepted, system_constants}
 use Rattle.ioa_run_laws.proofs.Assigned.{widened}
 use Rattle.ioa_run_laws.proofs.Environments.{given_valued}
 use Rattle.ioa_run_laws.proofs.NodeSteps.{is_rule}
-use Rattle.ioa_run_laws.proofs.Runs.{joint_shaped}
-use Rattle.ioa_run_laws.proofs.Starts.{start_shaped}
+use Rattle.ioa_run_laws.proofs.NothingChosen.{chose_nothing}
+use Rattle.ioa_run_laws.proofs.Runs.{IsOwnStep, run_steps}
+use Rattle.ioa_run_laws.proofs.Starts.{all_contained}
 use Rattle.ioa_printed_lines.specs.TextSystems.{IsNoMessage}
 use Rattle.ioa_report_laws.specs.Taken.{IsTaken}
 
@@ -65,7 +57,7 @@ kind_taken (Local a) k (inl e) = subst (λ (y : Kind). same_kind y Input ≡ fal
 kind_taken (Local a) k (inr e) = subst (λ (y : Kind). same_kind y Input ≡ false) (sym e.0) refl
 kind_taken (Stimulus a) k e = subst (λ (y : Kind). same_kind y Input ≡ true) (sym e.0) refl
 
--- no kind is both, and a node has one number
+-- no kind is both
 not_both : (k : Kind) → k ≡ Output → k ≡ Input → ⊥
 not_both k out into = absurd (cc)
 
@@ -74,9 +66,6 @@ internal_out k own out = absurd (cc)
 
 internal_in : (k : Kind) → k ≡ Internal → k ≡ Input → ⊥
 internal_in k own into = absurd (cc)
-
-one_number : (i j : ℤ) → component.Node i ≡ component.Node j → i ≡ j
-one_number i j same = cc
 
 -- an entry is named `send` only if it is an output, and `receive` only if it is an input
 no_message : (a : Action) (r : PlainRule) → r.entry.name ≡ action_name a → IsOfKind a r.entry.kind → IsWellNamed (record { entry = r.entry; shapes = r.shapes }) → IsNoMessage a
@@ -114,68 +103,51 @@ module _ (types : TypeTable) (names : NameShapes) (b : Bindings) (shaped : IsSha
   arguments_taken (u ∷ us) (p ∷ ps) (s ∷ ss) (v ∷ vs) h k = rw (argument_taken u p s v h.0 k.0) (arguments_taken us ps ss vs h.1 k.1)
 
 -- what a node takes
-node_taken : (x : SourceText) (s : SystemParts) → IsSystemOf x s → (a : Action) (c d : NodeState) → IsShapedNode s c → c.program.node ≡ node_of a → IsNodeStep a c d → IsTaken s a
-node_taken x s h a c d shaped mine step = record {
+node_taken : (x : SourceText) (s : SystemParts) → IsSystemOf x s → (en : PlainEntry) → IsOwnStep s en → IsTaken s en
+node_taken x s h en own = record {
   action = record {
-    program = c.program;
-    placed = subst (λ (k : ℤ). program_numbered k s.programs ≡ Some c.program) mine
-        (contained_found int_eq (λ k. (Decides-int_eq k k).1 refl) (λ (p : Parts). p.node) s.programs well.nodes c.program shaped.program);
+    program = p;
+    placed = subst (λ (k : ℤ). program_numbered k s.programs ≡ Some p) own.number
+        (contained_found int_eq (λ k. (Decides-int_eq k k).1 refl) (λ (q : Parts). q.node) s.programs well.nodes p own.shaped.program);
     rule = r;
-    named = subst (λ (w : List ℕ). rule_named w b.rules ≡ Some r) step.mine.action.name
-        (contained_found same_word (λ w. (bytes_eq-Decides w w).1 refl) (λ (q : PlainRule). q.entry.name) b.rules once.entries r step.mine.present);
-    kind = kind_taken a r.entry.kind step.mine.action.kind;
-    sorted = arguments_taken h.types.types (names_at entry_constant h.types.constants b.parameters b.variables []) (given_bindings b c.program.arguments)
-        (given_valued h.types b accepted.automaton.constants (system_constants x s h) c.program.arguments shaped.arguments).shaped
-        made.0.parameters r.entry.parameters r.shapes (action_arguments a) made.1.parameters step.mine.action.arguments;
+    named = subst (λ (w : List ℕ). rule_named w b.rules ≡ Some r) mine.action.name
+        (contained_found same_word (λ w. (bytes_eq-Decides w w).1 refl) (λ (q : PlainRule). q.entry.name) b.rules once.entries r mine.present);
+    kind = kind_taken en.action r.entry.kind mine.action.kind;
+    sorted = arguments_taken h.types.types (names_at entry_constant h.types.constants b.parameters b.variables []) (given_bindings b p.arguments)
+        (given_valued h.types b accepted.automaton.constants (system_constants x s h) p.arguments own.shaped.arguments).shaped
+        made.0.parameters r.entry.parameters r.shapes (action_arguments en.action) made.1.parameters mine.action.arguments;
   };
-  message = no_message a r step.mine.action.name step.mine.action.kind made.1.message;
+  message = no_message en.action r mine.action.name mine.action.kind made.1.message;
+  chosen = chose_nothing x s h en own;
 }
   where
+    p : Parts
+    p = own.old.program
+
     b : AutomatonParts
-    b = c.program.automaton
+    b = p.automaton
 
     r : PlainRule
-    r = step.rule
+    r = own.step.rule
+
+    mine : HasRule p en.action r
+    mine = own.step.mine
 
     well : IsWellDeclared s
     well = declared_once x s h
 
-    once : DeclaresOnce c.program
-    once = contained_has DeclaresOnce s.programs c.program well.programs shaped.program
+    once : DeclaresOnce p
+    once = contained_has DeclaresOnce s.programs p well.programs own.shaped.program
 
-    accepted : IsAcceptedProgram h.types c.program
-    accepted = is_accepted x s h c.program shaped.program
+    accepted : IsAcceptedProgram h.types p
+    accepted = is_accepted x s h p own.shaped.program
 
     made : (e : SourceEntry) × IsRuleOf h.types b.parameters b.variables accepted.source.transitions e r
-    made = is_rule h.types c.program accepted r step.mine.present
-
-module _ (x : SourceText) (s : SystemParts) (h : IsSystemOf x s) where
-  -- a joint step
-  step_taken : (entry : PlainEntry) (cs next : List Conf) → AreShaped s cs → IsJointStep IsStep entry cs next → IsTaken s entry.action
-  step_taken entry cs next g step = by_step (step.participants (component.Node (node_of entry.action)) ((Decides-int_eq (node_of entry.action) (node_of entry.action)).1 refl))
-    where
-      by_conf : (o n : Conf) → component_of o ≡ component.Node (node_of entry.action) → IsShapedConf s o → IsStep entry o n → IsTaken s entry.action
-      by_conf (Node c) (Node d) name shaped taken =
-          node_taken x s h entry.action c d shaped (one_number c.program.node (node_of entry.action) name) taken
-      by_conf (Node c) (Queue r) name shaped taken = absurd taken
-      by_conf (Queue q) n name shaped taken = absurd (subst (λ (k : Component). IsShapedQueue s k q.items) name shaped)
-
-      by_step : TakesStep IsStep entry (component.Node (node_of entry.action)) cs next → IsTaken s entry.action
-      by_step t =
-          by_conf t.old t.new (component_of-find_conf (component.Node (node_of entry.action)) cs t.old t.before)
-          (found_has (IsShapedConf s) (λ c. same_component (component.Node (node_of entry.action)) (component_of c)) cs t.old g t.before) t.step_of
-
-  -- an execution
-  execution_taken : (entries : List PlainEntry) (cs next : List Conf) → IsJointState cs → AreShaped s cs → IsExecution (IsJointStep IsStep) cs entries next → AllByRecursion (λ e. IsTaken s e.action) entries
-  execution_taken [] cs next state g e = tt
-  execution_taken (entry ∷ more) cs next state g e = (
-    step_taken entry cs e.0 g e.1,
-    execution_taken more e.0 next (joint_state_after entry cs e.0 state e.1) (joint_shaped x s h entry cs e.0 state g e.1) e.2,
-  )
+    made = is_rule h.types p accepted r mine.present
 
 -- an execution from the start, and a replay from it
-pub actions_taken : (x : SourceText) (s : SystemParts) (entries : List PlainEntry) (cs : List Conf) → IsSystemOf x s → IsExecution (IsJointStep IsStep) (start s) entries cs → AllByRecursion (λ e. IsTaken s e.action) entries
-actions_taken x s entries cs h e = execution_taken x s h entries (start s) cs (start_state s (declared_once x s h)) (start_shaped x s h) e
+pub actions_taken : (x : SourceText) (s : SystemParts) (entries : List PlainEntry) (cs : List Conf) → IsSystemOf x s → IsExecution (IsJointStep IsStep) (start s) entries cs → AllByRecursion (IsTaken s) entries
+actions_taken x s entries cs h e = all_contained (IsTaken s) entries (λ en c. node_taken x s h en (contained_has (IsOwnStep s) entries en (run_steps x s entries cs h e) c))
 
-pub replay_taken : (x : SourceText) (s : SystemParts) (entries : List PlainEntry) (cs : List Conf) → IsSystemOf x s → replay entries (start s) ≡ Some cs → AllByRecursion (λ e. IsTaken s e.action) entries
+pub replay_taken : (x : SourceText) (s : SystemParts) (entries : List PlainEntry) (cs : List Conf) → IsSystemOf x s → replay entries (start s) ≡ Some cs → AllByRecursion (IsTaken s) entries
 replay_taken x s entries cs h e = actions_taken x s entries cs h (replays entries (start s) cs (start_state s (declared_once x s h)) e)

@@ -28,13 +28,14 @@ use ioa_schedule_check::schedule_law;
 use ioa_text_laws::text_system_law;
 
 /// Each action of an execution of an accepted system is one of the system's, and only sends and receives have the
-/// names of messages. So it is with each execution from the start (Lynch 8.1), and with each replay.
+/// names of messages. No entry has a chosen value, since no effect of a text has a choice. So it is with each execution
+/// from the start (Lynch 8.1), and with each replay.
 pub fn actions_law()
     ensures execution { (p : SourceText) (s : SystemParts) (entries : List PlainEntry) (cs : List Conf) →
         IsSystemOf p s → IsExecution (IsJointStep IsStep) (start s) entries cs →
-        AllByRecursion (λ e. IsTaken s e.action) entries }
+        AllByRecursion (IsTaken s) entries }
     ensures replay { (p : SourceText) (s : SystemParts) (entries : List PlainEntry) (cs : List Conf) →
-        IsSystemOf p s → replay entries (start s) ≡ Some cs → AllByRecursion (λ e. IsTaken s e.action) entries }
+        IsSystemOf p s → replay entries (start s) ≡ Some cs → AllByRecursion (IsTaken s) entries }
 {}
 
 /// The schedule of a report passes the check of schedules, if the values of its actions are values of the runtime. A

@@ -7,7 +7,7 @@ use Rattle.ioa_terms.specs.declared.callee.Callee.{Callee}
 use Rattle.ioa_terms.specs.declared.name.Name.{Name}
 use Rattle.ioa_terms.specs.declared.name.Name.TheVariants.{Word}
 use Rattle.ioa_terms.specs.Bindings.{Bindings, names_of}
-use Rattle.ioa_terms.specs.Choices.{Left, left, given, Lack}
+use Rattle.ioa_terms.specs.Choices.{Left, left, Lack}
 use Rattle.ioa_terms.specs.Performance.{after_one, target_name, target_shape}
 use Rattle.ioa_terms.specs.PlainTerm.{PlainTerm, PlainTarget, variable, at_key, at_field, PlainStatement, PlainStatements, PlainArms, assign, branch, loop, fire, choosing, no_statements, statement, no_arms, arm, statements_of}
 use Rattle.ioa_terms.specs.Sorted.{NameShapes, HasShape, shape_named, shape_in_terms, IsShaped}
@@ -173,7 +173,7 @@ module _ (x : SourceText) (s : SystemParts) (h : IsSystemOf x s) (c : NodeState)
         names = λ site. rule_names x s h c shaped site r a sorts;
         condition = guard_truth (names_at entry_condition h.types.constants b.parameters b.variables r.entry.parameters) (rule_bindings entry_condition r a c) (rule_valued x s h c shaped entry_condition r a sorts) made.0.condition r.entry.condition made.1.condition;
         guard = guard_truth names (rule_bindings guard_or_effect r a c) g made.1.written.pre r.transition.pre made.1.transition.pre;
-        effect = statements_sorted variables names declared (statements_of r.transition.effect) (left (rule_bindings guard_or_effect r a c) (given [])) (all_sorted (effect_site variables names) made.1.written.effect r.transition.effect made.1.transition.effect) g;
+        effect = λ source. statements_sorted variables names declared (statements_of r.transition.effect) (left (rule_bindings guard_or_effect r a c) source) (all_sorted (effect_site variables names) made.1.written.effect r.transition.effect made.1.transition.effect) g;
       }
 
   pub node_sorted : IsNodeWellSorted c

@@ -34,7 +34,7 @@ use Rattle.ioa_compose.specs.Composition.{component_of, find_conf}
 use Rattle.ioa_compose.specs.Readings.{queue_messages, channel_messages}
 use Rattle.ioa_compose.specs.declared.configuration.Conf.{Conf}
 use Rattle.ioa_compose.specs.declared.configuration.Conf.TheVariants.{Node, Queue}
-use Rattle.ioa_compose.proofs.Components.{component_of-find_conf}
+use Rattle.ioa_compose.proofs.Components.{name_found}
 use Rattle.ioa_sorts.proofs.Lookups.{found_has}
 use Rattle.ioa_turns.specs.Inboxes.{inboxes_in}
 use Rattle.ioa_turns.proofs.SeenInboxes.{inbox_waits, no_inbox}
@@ -94,10 +94,10 @@ inboxes_are s i j cs shaped = by_conf (find_conf (component.Channel i j) cs) ref
     by_conf : (o : Option Conf) → find_conf (component.Channel i j) cs ≡ o → value_at (number i) (inbox_entries (inboxes_in j cs)) ≡ option_and_then queue_messages o
     by_conf None e = no_inbox i j cs e
     by_conf (Some (Node c)) e =
-        let name : component.Node c.program.node ≡ component.Channel i j = component_of-find_conf (component.Channel i j) cs (Node c) e in
+        let name : component.Node c.program.node ≡ component.Channel i j = name_found (component.Channel i j) cs (Node c) e in
         absurd (cc)
     by_conf (Some (Queue q)) e =
-        let name : q.component ≡ component.Channel i j = component_of-find_conf (component.Channel i j) cs (Queue q) e in
+        let name : q.component ≡ component.Channel i j = name_found (component.Channel i j) cs (Queue q) e in
         let there : IsShapedQueue s q.component q.items = found_has (IsShapedConf s) (λ b. same_component (component.Channel i j) (component_of b)) cs (Queue q) shaped e in
         let channel : IsShapedQueue s (component.Channel i j) q.items = subst (λ (k : Component). IsShapedQueue s k q.items) name there in
         let all = all_messages s j q.items channel.messages in

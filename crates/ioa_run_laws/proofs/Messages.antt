@@ -33,6 +33,7 @@ use Rattle.ioa_system.specs.Parts.{rule_named}
 use Rattle.ioa_sections.specs.Meant.{HaveOneMessage, IsChannelOf}
 use Rattle.ioa_check.specs.Systems.{IsSystemOf}
 use Rattle.ioa_check.proofs.Declared.{declared_once}
+use Rattle.ioa_transitions.specs.Entries.{entry}
 use Rattle.ioa_transitions.specs.NodeState.{NodeState}
 use Rattle.ioa_transitions.specs.NodeStep.{IsOfSort, IsNodeStep, TakesArgument}
 use Rattle.ioa_compose.specs.Participants.{takes_part}
@@ -78,8 +79,8 @@ module _ (types : TypeTable) (names : NameShapes) where
       (p, refl, sym same ∙ h.0.1)
 
 -- what a node sends on a declared channel
-pub message_fits : (x : SourceText) (s : SystemParts) → IsSystemOf x s → (m : Data) (i j : ℤ) (c : declaration.Channel) → Contains s.channels c → c.from ≡ i → c.to ≡ j → (n d : NodeState) → IsShapedNode s n → n.program.node ≡ i → IsNodeStep (action.Send m i j) n d → IsMessageTo s j m
-message_fits x s h m i j c present from to n d shaped mine step = record {
+pub message_fits : (x : SourceText) (s : SystemParts) → IsSystemOf x s → (m : Data) (i j : ℤ) (chosen : List Data) (c : declaration.Channel) → Contains s.channels c → c.from ≡ i → c.to ≡ j → (n d : NodeState) → IsShapedNode s n → n.program.node ≡ i → IsNodeStep (entry (action.Send m i j) chosen) n d → IsMessageTo s j m
+message_fits x s h m i j chosen c present from to n d shaped mine step = record {
   receiver = joined.receiver;
   to = subst (λ (k : ℤ). program_numbered k s.programs ≡ Some joined.receiver) to joined.to;
   input = joined.input;

@@ -22,6 +22,7 @@ use Rattle.ioa_automata.specs.NamesInView.{parameter_shapes, variable_shapes, ow
 use Rattle.ioa_automata.specs.SortedAutomata.{IsRuleOf, names_at}
 use Rattle.ioa_sections.proofs.Tests.{word_turned}
 use Rattle.ioa_check.specs.Systems.{IsSystemOf}
+use Rattle.ioa_transitions.specs.Entries.{PlainEntry}
 use Rattle.ioa_transitions.specs.NodeState.{NodeState, node_state}
 use Rattle.ioa_transitions.specs.NodeStep.{IsOfSort, IsNodeStep, own_values, rule_bindings}
 use Rattle.ioa_run_laws.specs.Shaped.{FitsVariable, IsShapedNode}
@@ -94,8 +95,8 @@ is_rule t p accepted r c =
     (each_related (IsRuleOf t p.automaton.parameters p.automaton.variables accepted.source.transitions) accepted.source.signature p.automaton.rules accepted.automaton.rules) c
 
 -- the step of a node
-pub step_shaped : (x : SourceText) (s : SystemParts) (a : Action) (c d : NodeState) → IsSystemOf x s → IsShapedNode s c → IsNodeStep a c d → IsShapedNode s d
-step_shaped x s a c d h shaped step =
+pub step_shaped : (x : SourceText) (s : SystemParts) (en : PlainEntry) (c d : NodeState) → IsSystemOf x s → IsShapedNode s c → IsNodeStep en c d → IsShapedNode s d
+step_shaped x s en c d h shaped step =
     subst (λ (p : Parts). IsShapedNode s (node_state p d.variables)) (sym step.program) (record {
       program = shaped.program;
       arguments = shaped.arguments;
@@ -116,5 +117,5 @@ step_shaped x s a c d h shaped step =
 
     left_shaped : IsShaped names step.reached
     left_shaped = effect_shaped (take (length b.variables) names) names (λ y t found. found_in_front y (length b.variables) names t found)
-        made.1.written.effect r.transition.effect (left (rule_bindings guard_or_effect r a c) (given [])) (left step.reached (given [])) made.1.transition.effect
-        (rule_valued x s h c shaped guard_or_effect r a step.sorts).shaped step.effect
+        made.1.written.effect r.transition.effect (left (rule_bindings guard_or_effect r en.action c) (given en.chosen)) (left step.reached (given [])) made.1.transition.effect
+        (rule_valued x s h c shaped guard_or_effect r en.action step.sorts).shaped step.effect

@@ -42,7 +42,7 @@ use Rattle.ioa_compose.specs.Start.{start}
 use Rattle.ioa_compose.specs.Steps.{IsStep}
 use Rattle.ioa_compose.specs.declared.configuration.Conf.{Conf}
 use Rattle.ioa_compose.specs.declared.configuration.Conf.TheVariants.{Node, Queue}
-use Rattle.ioa_compose.proofs.Components.{component_of-find_conf}
+use Rattle.ioa_compose.proofs.Components.{name_found}
 use Rattle.ioa_compose.proofs.Projections.{projects, replays}
 use Rattle.ioa_compose.proofs.Starts.{is_start, start_state}
 use Rattle.ioa_run_laws.specs.Invariants.{IsWellRead}
@@ -141,12 +141,12 @@ module _ (x : SourceText) (s : SystemParts) (h : IsSystemOf x s) where
     node_of : (p : Parts) → Contains s.programs p → (c : Conf) → find_conf (component.Node p.node) cs ≡ Some c → IsNodeOf p
     node_of p present (Node c) found =
         let own : IsShapedNode s c = conf_shaped (component.Node p.node) (Node c) found in
-        let name : component.Node c.program.node ≡ component.Node p.node = component_of-find_conf (component.Node p.node) cs (Node c) found in
+        let name : component.Node c.program.node ≡ component.Node p.node = name_found (component.Node p.node) cs (Node c) found in
         let number : c.program.node ≡ p.node = cc in
         let there : program_numbered p.node s.programs ≡ Some c.program = subst (λ (k : ℤ). program_numbered k s.programs ≡ Some c.program) number (numbered c.program own.program) in
         record { state = c; found = found; same = of_some c.program p (sym there ∙ numbered p present); fits = own.variables }
     node_of p present (Queue q) found =
-        let name : q.component ≡ component.Node p.node = component_of-find_conf (component.Node p.node) cs (Queue q) found in
+        let name : q.component ≡ component.Node p.node = name_found (component.Node p.node) cs (Queue q) found in
         absurd (subst (λ (k : Component). IsShapedQueue s k q.items) name (conf_shaped (component.Node p.node) (Queue q) found))
 
     -- a queue of a channel
@@ -157,10 +157,10 @@ module _ (x : SourceText) (s : SystemParts) (h : IsSystemOf x s) where
 
     queue_of : (i j : ℤ) (c : Conf) → find_conf (component.Channel i j) cs ≡ Some c → IsQueueOf i j
     queue_of i j (Node c) found =
-        let name : component.Node c.program.node ≡ component.Channel i j = component_of-find_conf (component.Channel i j) cs (Node c) found in
+        let name : component.Node c.program.node ≡ component.Channel i j = name_found (component.Channel i j) cs (Node c) found in
         absurd (cc)
     queue_of i j (Queue q) found =
-        let name : q.component ≡ component.Channel i j = component_of-find_conf (component.Channel i j) cs (Queue q) found in
+        let name : q.component ≡ component.Channel i j = name_found (component.Channel i j) cs (Queue q) found in
         let channel : IsShapedQueue s (component.Channel i j) q.items = subst (λ (k : Component). IsShapedQueue s k q.items) name (conf_shaped (component.Channel i j) (Queue q) found) in
         record { queue = q; found = found; messages = channel.messages }
 

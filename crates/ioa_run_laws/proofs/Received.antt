@@ -32,6 +32,7 @@ use Rattle.ioa_sections.specs.Meant.{IsChannelOf, IsConstantOf, IsEntryOn, Takes
 use Rattle.ioa_check.specs.Systems.{IsSystemOf}
 use Rattle.ioa_check.proofs.Declared.{declared_once}
 use Rattle.ioa_compose.specs.Composition.{component_of, find_conf}
+use Rattle.ioa_transitions.specs.Entries.{entry}
 use Rattle.ioa_transitions.specs.NodeState.{NodeState, node_state}
 use Rattle.ioa_transitions.specs.NodeStep.{GuardHolds, HasRule, IsNodeStep, IsOfSort, IsState, TakesArgument, rule_bindings}
 use Rattle.ioa_actions.specs.ComponentOrder.{same_component}
@@ -39,7 +40,7 @@ use Rattle.ioa_channels.specs.Queues.{QueueState}
 use Rattle.ioa_compose.specs.declared.configuration.Conf.{Conf}
 use Rattle.ioa_compose.specs.declared.configuration.Conf.TheVariants.{Node, Queue}
 use Rattle.ioa_channels.specs.declared.queue.Item.TheVariants.{Message}
-use Rattle.ioa_compose.proofs.Components.{component_of-find_conf}
+use Rattle.ioa_compose.proofs.Components.{name_found}
 use Rattle.ioa_transitions.proofs.NodeSignatures.{range_check_parts}
 use Rattle.ioa_transitions.proofs.NodeSteps.{names_left}
 use Rattle.ioa_run_laws.specs.Shaped.{FitsVariable, IsShapedNode, IsMessageTo, IsItemTo, IsShapedChannel, IsShapedQueue, IsShapedConf, AreShaped}
@@ -207,8 +208,8 @@ as_many (x ∷ xs) [] h = absurd h
 as_many (x ∷ xs) (v ∷ vs) h = let rest = as_many xs vs h.1 in omega (arith, rest)
 
 step_by : (x : SourceText) (s : SystemParts) → IsSystemOf x s → (n : NodeState) → IsShapedNode s n → (r : PlainRule) (a : Action) → HasRule n.program a r → AllZip IsOfSort r.entry.parameters (action_arguments a) → r.entry.condition ≡ None → r.transition.pre ≡ None →
-    (reached : Bindings) → after r.transition.effect (left (rule_bindings guard_or_effect r a n) (given [])) ≡ Ok (left reached (given [])) → (d : NodeState) × IsNodeStep a n d
-step_by x s h n shaped r a mine sorts condition guard reached effect = (
+    (chosen : List Data) (reached : Bindings) → after r.transition.effect (left (rule_bindings guard_or_effect r a n) (given chosen)) ≡ Ok (left reached (given [])) → (d : NodeState) × IsNodeStep (entry a chosen) n d
+step_by x s h n shaped r a mine sorts condition guard chosen reached effect = (
   node_state n.program (take (length n.variables) (map (λ b. b.1) reached)),
   record {
     rule = r;
@@ -218,7 +219,7 @@ step_by x s h n shaped r a mine sorts condition guard reached effect = (
     guard = none_holds r.transition.pre (rule_bindings guard_or_effect r a n) guard;
     reached = reached;
     effect = effect;
-    variables = names_left n r a (left reached (given [])) state effect;
+    variables = names_left n r a (given chosen) (left reached (given [])) state effect;
     program = refl;
   },
 )
@@ -293,12 +294,12 @@ queue_awaited x s cs i j q m c h shaped queue present node =
   where
     channel : IsShapedChannel s i j q.items
     channel =
-        let name : q.component ≡ component.Channel i j = component_of-find_conf (component.Channel i j) cs (Queue q) queue in
+        let name : q.component ≡ component.Channel i j = name_found (component.Channel i j) cs (Queue q) queue in
         let there : IsShapedQueue s q.component q.items = found_has (IsShapedConf s) (λ b. same_component (component.Channel i j) (component_of b)) cs (Queue q) shaped queue in
         subst (λ k. IsShapedQueue s k q.items) name there
 
     mine : c.program.node ≡ j
-    mine = let name : component.Node c.program.node ≡ component.Node j = component_of-find_conf (component.Node j) cs (Node c) node in cc
+    mine = let name : component.Node c.program.node ≡ component.Node j = name_found (component.Node j) cs (Node c) node in cc
 
 pub messages_awaited : (x : SourceText) (s : SystemParts) (cs : List Conf) → IsSystemOf x s → AreShaped s cs → AreMessagesAwaited cs
 messages_awaited x s cs h shaped = λ i j q m c queue present node. queue_awaited x s cs i j q m c h shaped queue present node

@@ -29,7 +29,7 @@ use Rattle.ioa_compose.specs.declared.configuration.Conf.{Conf}
 use Rattle.ioa_compose.specs.declared.configuration.Conf.TheVariants.{Node, Queue}
 use Rattle.ioa_compose.specs.JointStep.{IsJointState}
 use Rattle.ioa_compose.specs.Start.{start}
-use Rattle.ioa_compose.proofs.Components.{component_of-find_conf}
+use Rattle.ioa_compose.proofs.Components.{name_found}
 use Rattle.ioa_compose.proofs.Compositions.{is_joint_step, joint_state_after}
 use Rattle.ioa_compose.proofs.Starts.{start_state}
 use Rattle.ioa_record.specs.declared.ending.NodeFault.{NodeFault}
@@ -102,7 +102,7 @@ module _ (x : SourceText) (s : SystemParts) (h : IsSystemOf x s) where
   variables_fit : (cs : List Conf) (p : PlainProgress) (c : NodeState) → HoldsStates cs → HoldsNode cs p → find_conf (component.Node p.program.node) cs ≡ Some (Node c) → AllZip FitsVariable p.program.automaton.variables c.variables
   variables_fit cs p c k n found =
       let shaped : IsShapedNode s c = found_has (IsShapedConf s) (λ b. same_component (component.Node p.program.node) (component_of b)) cs (Node c) k.shaped found in
-      let name : component.Node c.program.node ≡ component.Node p.program.node = component_of-find_conf (component.Node p.program.node) cs (Node c) found in
+      let name : component.Node c.program.node ≡ component.Node p.program.node = name_found (component.Node p.program.node) cs (Node c) found in
       let number : c.program.node ≡ p.program.node = cc in
       let there : program_numbered p.program.node s.programs ≡ Some c.program = subst (λ (k : ℤ). program_numbered k s.programs ≡ Some c.program) number (numbered c.program shaped.program) in
       let same : c.program ≡ p.program = of_some c.program p.program (sym there ∙ numbered p.program n.present) in

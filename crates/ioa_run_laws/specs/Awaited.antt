@@ -11,6 +11,7 @@ use Rattle.ioa_actions.specs.declared.component.Component.TheVariants as compone
 use Rattle.ioa_system.specs.InView.{guard_or_effect}
 use Rattle.ioa_system.specs.Parts.{PlainRule}
 use Rattle.ioa_compose.specs.Composition.{find_conf}
+use Rattle.ioa_transitions.specs.Entries.{entry}
 use Rattle.ioa_transitions.specs.NodeState.{NodeState}
 use Rattle.ioa_transitions.specs.NodeStep.{HasRule, IsNodeStep, IsOfSort, rule_bindings}
 use Rattle.ioa_channels.specs.Queues.{QueueState}
@@ -19,16 +20,17 @@ use Rattle.ioa_compose.specs.declared.configuration.Conf.TheVariants.{Node, Queu
 use Rattle.ioa_channels.specs.declared.queue.Item.TheVariants.{Message}
 
 -- a rule of the node's program has the receipt of a message on channel i -> j; its arguments are of their sorts, and
--- there is neither a condition nor a guard (profile). So it is a step of the node if the effect leaves values
+-- there is neither a condition nor a guard (profile). So it is a step of the node if the effect leaves values, whatever
+-- values the effect chooses
 pub record IsAwaited (c : NodeState) (m : Data) (i j : ℤ) : Type 0 where
   pub rule : PlainRule
   pub mine : HasRule c.program (Receive m i j) rule
   pub sorts : AllZip IsOfSort rule.entry.parameters (action_arguments (Receive m i j))
   pub condition : rule.entry.condition ≡ None
   pub guard : rule.transition.pre ≡ None
-  pub enabled : (reached : Bindings)
-      → after rule.transition.effect (left (rule_bindings guard_or_effect rule (Receive m i j) c) (given []))
-      ≡ Ok (left reached (given [])) → (d : NodeState) × IsNodeStep (Receive m i j) c d
+  pub enabled : (chosen : List Data) (reached : Bindings)
+      → after rule.transition.effect (left (rule_bindings guard_or_effect rule (Receive m i j) c) (given chosen))
+      ≡ Ok (left reached (given [])) → (d : NodeState) × IsNodeStep (entry (Receive m i j) chosen) c d
 
 -- each message in the queue of a channel is awaited by the node to which the channel leads
 abbrev pub AreMessagesAwaited : List Conf → Type 0

@@ -8,7 +8,7 @@ use Rattle.ioa_operators.specs.Shapes.{PlainShape, truths, maps, wide_shape}
 use Rattle.ioa_operators.specs.declared.shape.Shape.{Shape}
 use Rattle.ioa_terms.specs.declared.callee.Callee.{Callee}
 use Rattle.ioa_terms.specs.Bindings.{Bindings, names_of}
-use Rattle.ioa_terms.specs.Choices.{Left, left, given}
+use Rattle.ioa_terms.specs.Choices.{Source, Left, left}
 use Rattle.ioa_terms.specs.Performance.{after_one, assignment_value, target_name, target_shape}
 use Rattle.ioa_terms.specs.PlainTerm.{PlainTerm, PlainTarget, variable, at_key, at_field}
 use Rattle.ioa_terms.specs.PlainTerm.{PlainStatement, PlainStatements, PlainArms}
@@ -78,14 +78,14 @@ abbrev mutual
   AreWellSorted (statement s more) l = IsWellSorted s l × IfOk (after_one s l) (AreWellSorted more)
 
 -- what a rule evaluates when a node takes an action: it reads the names in view at each site, each with its value; the
--- entry's condition, the guard and the effect are well sorted
+-- entry's condition, the guard and the effect are well sorted, wherever choices would take their values
 pub record IsRuleWellSorted (c : NodeState) (a : Action) (r : PlainRule) : Type 0 where
   pub names : (site : Site) → names_of (rule_bindings site r a c)
       ≡ names_at site (declared_names c.program.automaton) (own_names r.entry.parameters)
   pub condition : IsTruthValued r.entry.condition (rule_bindings entry_condition r a c)
   pub guard : IsTruthValued r.transition.pre (rule_bindings guard_or_effect r a c)
-  pub effect : AreWellSorted (statements_of r.transition.effect)
-      (left (rule_bindings guard_or_effect r a c) (given []))
+  pub effect : (source : Source) → AreWellSorted (statements_of r.transition.effect)
+      (left (rule_bindings guard_or_effect r a c) source)
 
 -- what the schedule block of a node reads, if it sees these inboxes, and its own variables have these values
 abbrev pub block_read : NodeState → (inboxes own : List Data) → Bindings

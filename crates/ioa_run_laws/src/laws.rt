@@ -2,7 +2,6 @@
 
 ghost use Rattle.std.specs.Prelude.{◌≡◌, true, ℕ, ℤ, List, [], None, Some, is_some, map};
 ghost use Rattle.std.specs.List.{AllByRecursion, AllZip, Contains};
-ghost use Rattle.ioa_actions.specs.declared.action.Action.{Action};
 ghost use Rattle.ioa_values.specs.Data.{Data, number};
 ghost use Rattle.ioa_operators.specs.Shapes.{PlainShape};
 ghost use Rattle.ioa_operators.specs.declared.shape.Shape.{Shape};
@@ -39,12 +38,12 @@ ghost use Rattle.ioa_run_laws.specs.Shaped.{FitsVariable, FitInboxes, IsShapedNo
 ghost use Rattle.ioa_run_laws.specs.WellSorted.{IsNodeWellSorted, AreConfsWellSorted};
 
 /// At the start of an accepted system each value at a node has its declared shape. A step of a node keeps the shapes,
-/// whatever the action. So they are kept by each execution from the start, and by each replay, and each message under
-/// way has the shape that its receiver takes.
+/// whatever the action, and whatever its effect chooses. So they are kept by each execution from the start, and by each
+/// replay, and each message under way has the shape that its receiver takes.
 pub fn shapes_kept_law()
     ensures start { (x : SourceText) (s : SystemParts) → IsSystemOf x s → AreShaped s (start s) }
-    ensures step { (x : SourceText) (s : SystemParts) (a : Action) (c d : NodeState) → IsSystemOf x s →
-        IsShapedNode s c → IsNodeStep a c d → IsShapedNode s d }
+    ensures step { (x : SourceText) (s : SystemParts) (e : PlainEntry) (c d : NodeState) → IsSystemOf x s →
+        IsShapedNode s c → IsNodeStep e c d → IsShapedNode s d }
     ensures execution { (x : SourceText) (s : SystemParts) (entries : List PlainEntry) (cs : List Conf) →
         IsSystemOf x s → IsExecution (IsJointStep IsStep) (start s) entries cs → AreShaped s cs }
     ensures replay { (x : SourceText) (s : SystemParts) (entries : List PlainEntry) (cs : List Conf) →
@@ -76,7 +75,7 @@ pub fn well_sorted_law()
 
 /// A node of an accepted system has a rule for each message on a channel to it, which takes the message whatever the
 /// node's state (Lynch 8.1): the message is of the sort that it takes, and it has neither a condition nor a guard. So a
-/// receipt is a step of the node if its effect leaves values.
+/// receipt is a step of the node if its effect leaves values, whatever it chooses.
 pub fn receive_law()
     ensures shaped { (x : SourceText) (s : SystemParts) (cs : List Conf) → IsSystemOf x s → AreShaped s cs →
         AreMessagesAwaited cs }

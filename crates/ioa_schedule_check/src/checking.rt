@@ -15,7 +15,6 @@ use ioa_lines::{LineFault, ScheduleLines};
 use ioa_system::System;
 use ioa_transitions::Entry;
 use std::alloc::Global;
-use std::sync::Arc;
 
 /// Whether the lines of a text are an execution of a system (Lynch 8.1): each line that has tokens spells an action,
 /// and one after another they are joint steps from the start. If not, the first line that spells none is told,
@@ -66,7 +65,7 @@ fn follow(
 fn take(alloc: Global, course: &mut Course, action: Action) -> Result<(), StepFault>
     ensures { Answers StepFault.Memory (λ _. course.new) result (joint_answer (entry_of action) course.old) }
 {
-    let entry = Entry::of(Arc::new(alloc, action)?);
+    let entry = Entry::of(alloc, action)?;
     course.advance(alloc, &entry)
 }
 

@@ -1,5 +1,5 @@
--- A book that begins at the start of a system shows each node with the program that the system has for it, since no step
--- changes a node's program. So to meet such a node leaves it as it is.
+-- A book that begins at the start of a system shows each node with the program that the system has for it, since no
+-- step changes a node's program. So to meet such a node leaves it as it is.
 use Rattle.std.proofs.Common.{◌≡◌, ◌∙◌, ◌++◌, ℤ, Bool, true, false, List, [], ◌∷◌, map, Some, Result, Ok, Err, refl, sym, ap, subst, append_assoc}
 use Rattle.std.specs.Ordering.{int_eq}
 use Rattle.std.proofs.lemmas.Bool.Decides.{Decides-int_eq}
@@ -18,9 +18,9 @@ use Rattle.ioa_system.specs.Parts.{Parts}
 use Rattle.ioa_system.specs.SameParts.{same_program, same_program_is}
 use Rattle.ioa_system.specs.Systems.{SystemParts}
 use Rattle.ioa_transitions.specs.Entries.{PlainEntry}
-use Rattle.ioa_transitions.specs.NodeAnswers.{node_answer}
+use Rattle.ioa_transitions.specs.NodeAnswers.{redo_answer}
 use Rattle.ioa_transitions.specs.NodeState.{NodeState}
-use Rattle.ioa_transitions.proofs.NodeSteps.{program-node_answer}
+use Rattle.ioa_transitions.proofs.NodeSteps.{program-redo_answer}
 use Rattle.ioa_turns.specs.NodeTurns.{PlainProgress}
 use Rattle.ioa_values.specs.Outcome.{and_then}
 use Rattle.ioa_solo.specs.Meets.{met_in}
@@ -34,7 +34,7 @@ Shows p (Queue q) = ⊥
 -- a step keeps it
 step_shows : (p : Parts) (e : PlainEntry) (c d : Conf) → Shows p c → HasAnswer e c d → Shows p d
 unfolding conf_answer Shows
-step_shows p e (Node c) d same h = by_answer (node_answer c e.action) (program-node_answer c e.action) h
+step_shows p e (Node c) d same h = by_answer (redo_answer c e) (program-redo_answer c e) h
   where
     by_answer : (r : Result NodeState StepFault) → ((n : NodeState) → r ≡ Ok n → n.program ≡ c.program) → and_then r (λ n. Ok (Node n)) ≡ Ok d → Shows p d
     by_answer (Ok n) kept e =

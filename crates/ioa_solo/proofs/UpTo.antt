@@ -21,7 +21,7 @@ use Rattle.ioa_transitions.specs.Entries.{PlainEntry}
 use Rattle.ioa_compose.specs.Composition.{component_of, find_conf, find_confs, picks_of}
 use Rattle.ioa_compose.specs.Participants.{participants_of, takes_part}
 use Rattle.ioa_compose.specs.declared.configuration.Conf.{Conf}
-use Rattle.ioa_compose.proofs.Components.{component_of-find_conf}
+use Rattle.ioa_compose.proofs.Components.{name_found}
 use Rattle.ioa_commits.specs.Books.{PlainBook, held_of, states_held}
 use Rattle.ioa_index.specs.Own.{concerns}
 use Rattle.ioa_commits.specs.Proposals.{PlainProposal, plain_proposal}
@@ -158,7 +158,7 @@ held_next b e (k ∷ ks) h = by_conf (find_conf k (states_held b)) refl (held_ne
 
     by_conf : (o : Option Conf) → find_conf k (states_held b) ≡ o → AreNext (b.log ++ e ∷ []) (reads_held b ks) → AreNext (b.log ++ e ∷ []) (one_or_none (option_map (with_version b.log) o) ++ reads_held b ks)
     by_conf None f others = others
-    by_conf (Some c) f others = (next c (component_of-find_conf k (states_held b) c f), others)
+    by_conf (Some c) f others = (next c (name_found k (states_held b) c f), others)
 
 -- the participants of an action take part in it
 all_take_part : (a : Action) → AllByRecursion (λ k. takes_part k a ≡ true) (participants_of a)

@@ -382,8 +382,8 @@ fn go_past<O: Origin, L: Ledger, B: Board<O, L>, G: Gate>(
         (B.tells board.new) (progress_of node.new)) }
     ensures settled { IfOk result (λ b. b ≡ true → IsSettled (progress_of node.new) snapshot.now) }
 {
-    let action = node.action_fired(alloc, firing)?;
-    match snapshot.propose_in(alloc, action, Some(firing.rule), rooms) {
+    let fired = node.action_fired(alloc, firing)?;
+    match snapshot.propose_in(alloc, fired, Some(firing.rule), rooms) {
         Ok(proposal) => commit(
             alloc, board, gate, worker, proposal, node, hand, spare, rooms,
         ),

@@ -14,8 +14,8 @@ use Rattle.ioa_actions.specs.declared.component.Component.TheVariants as compone
 use Rattle.ioa_actions.specs.declared.fault.StepFault.{StepFault}
 use Rattle.ioa_actions.specs.declared.fault.StepFault.TheVariants.{NotEnabled, NotMine}
 use Rattle.ioa_actions.proofs.SameComponents.{Decides-same_component, same_component-itself}
-use Rattle.ioa_transitions.specs.Entries.{PlainEntry, entry_of}
-use Rattle.ioa_compose.specs.Composition.{changes_of, find_conf, find_confs, joint_answer, picks_of, put_confs}
+use Rattle.ioa_transitions.specs.Entries.{PlainEntry}
+use Rattle.ioa_compose.specs.Composition.{find_conf, find_confs, joint_answer, picks_of, put_confs}
 use Rattle.ioa_compose.specs.Participants.{participants_of}
 use Rattle.ioa_compose.specs.declared.configuration.Conf.{Conf}
 use Rattle.ioa_commits.specs.Books.{PlainBook, states_after, states_held}
@@ -102,7 +102,7 @@ proposed_own a s x h = subst (λ (b : Action). proposal_answer b s ≡ Ok x) (sy
 -- an action that is missed on a look at the book as it is, is not enabled in the configurations held
 pub missed_in : (b : PlainBook) (a : Action) (s : PlainSnapshot) (r : PlainReason) → IsLookAt b s.node s → proposal_answer a s ≡ Err NotEnabled → IsReason (queue_among (participants_of a) (read_confs s.reads)) a r → IsNodeReason (find_conf (component.Node (node_of a)) (read_confs s.reads)) a r → IsMissedIn (states_held b) a r
 missed_in b a s r fresh h of_queue of_node = record {
-  not_enabled = by_changes (changes_of (entry_of a) (find_confs (participants_of a) (states_held b))) picked;
+  not_enabled = by_picks (picks_of a (find_confs (participants_of a) (states_held b))) picked;
   reason = subst (λ (o : Option Conf). IsReason o a r) seen_queue of_queue;
   test = subst (λ (o : Option Conf). IsNodeReason o a r) seen_node of_node;
 }
@@ -125,10 +125,10 @@ missed_in b a s r fresh h of_queue of_node = record {
     picked : and_then (picks_of a (find_confs (participants_of a) (states_held b))) (λ t. Ok (plain_proposal t.0 (length b.log) (reads_held b (participants_of a)))) ≡ Err NotEnabled
     picked = sym (fresh_proposal b s.node a own) ∙ seen
 
-    by_changes : (r : Result (List Conf) StepFault) → and_then {A = PlainEntry × List Conf} (and_then r (λ ds. Ok (entry_of a, ds))) (λ t. Ok (plain_proposal t.0 (length b.log) (reads_held b (participants_of a)))) ≡ Err NotEnabled →
-        and_then r (λ ds. Ok (put_confs ds (states_held b))) ≡ Err NotEnabled
-    by_changes (Ok ds) e = absurd (cc)
-    by_changes (Err f) e = let same : f ≡ NotEnabled = cc in ap (λ (g : StepFault). Err g) same
+    by_picks : (r : Result (PlainEntry × List Conf) StepFault) → and_then r (λ t. Ok (plain_proposal t.0 (length b.log) (reads_held b (participants_of a)))) ≡ Err NotEnabled →
+        and_then {B = PlainEntry × List Conf} r (λ t. Ok (t.0, put_confs t.1 (states_held b))) ≡ Err NotEnabled
+    by_picks (Ok t) e = absurd (cc)
+    by_picks (Err f) e = let same : f ≡ NotEnabled = cc in ap (λ (g : StepFault). Err g) same
 
 -- the node of an action is on a look at the book as it is what it is in the configurations held
 own_seen : (b : PlainBook) (a : Action) (s : PlainSnapshot) → IsLookAt b s.node s → node_of a ≡ s.node → find_conf (component.Node (node_of a)) (read_confs s.reads) ≡ find_conf (component.Node (node_of a)) (states_held b)
@@ -148,9 +148,9 @@ unfit_in b a s w v fresh own h = subst (λ (o : Option Conf). IsUnfit o a w v) (
 
 -- an entry that is taken and told
 pub tells_taken : {S : Type 0} (hears : PlainEvent → S → S → Type 0) (old new : PlainBook) (look after : PlainSnapshot) (e : PlainEntry) (x : PlainProposal) (was : Conf) (k : ℕ) (y z : S) →
-    IsLookAt old look.node look → proposal_answer x.entry.action look ≡ Ok x → x.entry.action ≡ e.action → find_conf (component.Node (node_of e.action)) (read_confs look.reads) ≡ Some was →
+    IsLookAt old look.node look → proposal_answer x.entry.action look ≡ Ok x → x.entry ≡ e → find_conf (component.Node (node_of e.action)) (read_confs look.reads) ≡ Some was →
     IsNext old x.entry new → IsLookAt new look.node after → k ≡ look.length → HearsTaken hears after k e was y z → TellsOn hears old new (e ∷ []) [] y z (mark.took e ∷ [])
-tells_taken {S} hears old new look after e x was k y z fresh proposed same found next again count told = record {
+tells_taken {S} hears old new look after e x was k y z fresh proposed entry found next again count told = record {
   start = ap (λ (b : PlainBook). b.start) next.recorded;
   schedule = append_same ∙ grown;
   events = taken k e was told.after (queue_among (participants_of e.action) (read_confs after.reads)) ∷ [];
@@ -159,8 +159,8 @@ tells_taken {S} hears old new look after e x was k y z fresh proposed same found
   marked = refl;
 }
   where
-    entry : x.entry ≡ e
-    entry = ap (λ (a : Action). entry_of a) same
+    same : x.entry.action ≡ e.action
+    same = ap (λ (f : PlainEntry). f.action) entry
 
     grown : new.log ≡ old.log ++ e ∷ []
     grown = ap (λ (b : PlainBook). b.log) next.recorded ∙ ap (λ (f : PlainEntry). old.log ++ f ∷ []) entry

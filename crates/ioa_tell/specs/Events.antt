@@ -1,6 +1,5 @@
 -- What is told of a run (profile): actions that were taken, actions that were missed, idle turns and endings.
 use Rattle.std.specs.Prelude.{ℕ, ℤ, List, Option}
-use Rattle.std.specs.Arc.{arc_value}
 use Rattle.std.specs.Option.{option_copied}
 use Rattle.ioa_actions.specs.declared.action.Action.{Action}
 use Rattle.ioa_compose.specs.declared.configuration.Conf.{Conf}
@@ -28,9 +27,9 @@ pub data PlainEvent : Type 0 where
 -- the same as the code tells it (view)
 abbrev pub event_of : Event → PlainEvent
 event_of (event.Taken k e before after queue) = taken k e.now before.now after.now (option_copied queue)
-event_of (event.Missed k a r) = missed k (arc_value a.now) (reason_of r)
-event_of (event.Faulted k a p f) = faulted k (arc_value a.now) (place_of p) (fault_of f)
-event_of (event.Unfit k a w v) = unfit k (arc_value a.now) w.now v.now
+event_of (event.Missed k a r) = missed k a.now (reason_of r)
+event_of (event.Faulted k a p f) = faulted k a.now (place_of p) (fault_of f)
+event_of (event.Unfit k a w v) = unfit k a.now w.now v.now
 event_of (event.Stuck k n p f) = stuck k n (statement_place_of p) (fault_of f)
 event_of (event.Idle k n) = idle k n
 event_of (event.Stopped k n) = stopped k n

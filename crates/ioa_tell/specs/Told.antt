@@ -5,13 +5,13 @@ use Rattle.ioa_actions.specs.declared.action.Action.{Action}
 use Rattle.ioa_actions.specs.declared.component.Component.TheVariants.{Node}
 use Rattle.ioa_actions.specs.declared.fault.StepFault.TheVariants.{NotEnabled}
 use Rattle.ioa_commits.specs.Books.{PlainBook, states_after}
-use Rattle.ioa_compose.specs.Composition.{find_conf, joint_answer}
+use Rattle.ioa_compose.specs.Composition.{find_conf, joint_answer, joint_pick}
 use Rattle.ioa_compose.specs.Participants.{participants_of}
 use Rattle.ioa_compose.specs.Start.{start}
 use Rattle.ioa_compose.specs.declared.configuration.Conf.{Conf}
 use Rattle.ioa_record.specs.declared.ending.Ending.{Ending}
 use Rattle.ioa_system.specs.Systems.{SystemParts}
-use Rattle.ioa_transitions.specs.Entries.{PlainEntry, entry_of}
+use Rattle.ioa_transitions.specs.Entries.{PlainEntry}
 use Rattle.ioa_turns.specs.NodeTurns.{PlainProgress, progress_at}
 use Rattle.ioa_reasons.specs.Faulted.{IsFaulted}
 use Rattle.ioa_reasons.specs.PlainReasons.{PlainReason}
@@ -34,7 +34,7 @@ pub record IsTakenFrom (cs next : List Conf) (e : PlainEntry) (was is : Conf) (b
 
 -- an action that is not enabled in these configurations, for a reason that is true of its queue and of its node there
 pub record IsMissedIn (cs : List Conf) (a : Action) (r : PlainReason) : Type 0 where
-  pub not_enabled : joint_answer (entry_of a) cs ≡ Err NotEnabled
+  pub not_enabled : joint_pick a cs ≡ Err NotEnabled
   pub reason : IsReason (queue_among (participants_of a) cs) a r
   pub test : IsNodeReason (find_conf (Node (node_of a)) cs) a r
 

@@ -6,7 +6,6 @@ use ioa_reasons::{Fault, Place, Reason, StatementPlace};
 use ioa_record::Ending;
 use ioa_terms::{Value, Word};
 use ioa_transitions::Entry;
-use std::sync::Arc;
 
 /// What is told of a run. Each event but the last ones bears the number of the actions that were taken before it.
 #[derive(Clone, Copy)]
@@ -29,7 +28,7 @@ pub enum Event<'a> {
         /// How many actions were taken before.
         number: usize,
         /// The action.
-        action: &'a Arc<Action>,
+        action: &'a Action,
         /// Why it was not enabled.
         reason: Reason<'a>,
     },
@@ -38,7 +37,7 @@ pub enum Event<'a> {
         /// How many actions were taken before.
         number: usize,
         /// The action.
-        action: &'a Arc<Action>,
+        action: &'a Action,
         /// Where the part is written.
         place: Place<'a>,
         /// The part, and why the step stops there.
@@ -49,7 +48,7 @@ pub enum Event<'a> {
         /// How many actions were taken before.
         number: usize,
         /// The action.
-        action: &'a Arc<Action>,
+        action: &'a Action,
         /// The name of the parameter.
         name: &'a Word,
         /// The argument.

@@ -37,7 +37,7 @@ pub(crate) fn take<O: Origin, T: Tells>(
     requires proposed { proposal_answer proposal.entry.action look.old ≡ Ok proposal }
     ensures told { OnOk result (TellsOn T.hears book.old book.new (entry.now ∷ []) [] out.old out.new
         (mark.took entry.now ∷ [])) }
-    ensures same { OnOk result (proposal.entry.action ≡ entry.now.action) }
+    ensures same { OnOk result (proposal.entry ≡ entry.now) }
 {
     if is_proposed(&proposal, entry) {
         take_proposed(alloc, book, look, entry, proposal, spare, out)
@@ -46,11 +46,11 @@ pub(crate) fn take<O: Origin, T: Tells>(
     }
 }
 
-/// Whether a proposal is of the action of this entry.
+/// Whether a proposal is of this entry.
 fn is_proposed<O: Origin>(proposal: &Proposal<O>, entry: &Entry) -> bool
-    ensures { result ≡ true → proposal.now.entry.action ≡ entry.now.action }
+    ensures { result ≡ true → proposal.now.entry ≡ entry.now }
 {
-    proposal.entry().action().equals(entry.action())
+    proposal.entry().equals(entry)
 }
 
 /// The same of an entry that is that of the proposal.
@@ -65,7 +65,7 @@ fn take_proposed<O: Origin, T: Tells>(
 ) -> Result<(), TellFault>
     requires fresh { IsLookAt book.old look.old.node look.old }
     requires proposed { proposal_answer proposal.entry.action look.old ≡ Ok proposal }
-    requires same { proposal.entry.action ≡ entry.now.action }
+    requires same { proposal.entry ≡ entry.now }
     ensures { OnOk result (TellsOn T.hears book.old book.new (entry.now ∷ []) [] out.old out.new
         (mark.took entry.now ∷ [])) }
 {

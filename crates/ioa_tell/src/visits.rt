@@ -1,7 +1,6 @@
 //! Visits of a node, once more.
 
 ghost use Rattle.std.specs.Prelude.{◌≡◌, ◌⊎◌, [], ◌∷◌, ◌++◌, OnOk, Ok, Err};
-ghost use Rattle.std.specs.Arc.{arc_value};
 ghost use Rattle.ioa_actions.specs.declared.fault.StepFault.{StepFault};
 ghost use Rattle.ioa_actions.specs.ActionParts.{node_of};
 ghost use Rattle.ioa_book.specs.Looks.{IsLookAt};
@@ -45,7 +44,6 @@ use ioa_terms::{Callee, Firing, Shape};
 use ioa_transitions::Entry;
 use ioa_turns::{Progress, fault_of_step, turn_of};
 use std::alloc::Global;
-use std::sync::Arc;
 
 /// A visit of a node, unless it has an ending. If the node comes to its end, that is told too.
 pub(crate) fn visit_unless_ended<O: Origin, T: Tells>(
@@ -259,10 +257,10 @@ fn go_past<O: Origin, T: Tells>(
         (progress_of node.old) (progress_of node.new)
         (action_fired (progress_of node.old).program (firing_of firing.now).action (arguments_in node.old)))) }
 {
-    let action = node.action_fired(alloc, firing)?;
-    match look.propose(alloc, &action) {
+    let entry = node.action_fired(alloc, firing)?;
+    match look.propose(alloc, &entry) {
         Ok(proposal) => fire(alloc, book, node, look, proposal, left, spare, out),
-        Err(fault) => after_fault(alloc, book, node, look, &action, fault, out),
+        Err(fault) => after_fault(alloc, book, node, look, entry.action(), fault, out),
     }
 }
 
@@ -316,15 +314,15 @@ fn after_fault<O: Origin, T: Tells>(
     book: &Book<O>,
     node: &mut Progress,
     look: &Snapshot<O>,
-    action: &Arc<Action>,
+    action: &Action,
     fault: StepFault,
     out: &mut T,
 ) -> Result<(), TellFault>
     requires fresh { IsLookAt book.now look.now.node look.now }
     requires stands { IsAtFire (progress_of node.old).todo }
-    requires failed { (fault ≡ StepFault.Memory) ⊎ (proposal_answer (arc_value action.now) look.now ≡ Err fault) }
+    requires failed { (fault ≡ StepFault.Memory) ⊎ (proposal_answer action.now look.now ≡ Err fault) }
     ensures { OnOk result (TellsSuch T.hears book.now book.now [] [] out.old out.new
-        (IsAfterFault look.now (progress_of node.old) (progress_of node.new) (arc_value action.now))) }
+        (IsAfterFault look.now (progress_of node.old) (progress_of node.new) action.now)) }
 {
     match fault_of_step(fault) {
         None => {
@@ -344,7 +342,7 @@ fn tell_fault<O: Origin, T: Tells>(
     alloc: Global,
     book: &Book<O>,
     look: &Snapshot<O>,
-    action: &Arc<Action>,
+    action: &Action,
     fault: NodeFault,
     out: &mut T,
 ) -> Result<(), TellFault>
@@ -362,7 +360,7 @@ fn tell_own_fault<O: Origin, T: Tells>(
     alloc: Global,
     book: &Book<O>,
     look: &Snapshot<O>,
-    action: &Arc<Action>,
+    action: &Action,
     out: &mut T,
 ) -> Result<(), TellFault>
     requires fresh { IsLookAt book.now look.now.node look.now }
@@ -382,14 +380,14 @@ fn tell_unfit<O: Origin, T: Tells>(
     alloc: Global,
     book: &Book<O>,
     look: &Snapshot<O>,
-    action: &Arc<Action>,
+    action: &Action,
     found: &Unfit<'_>,
     out: &mut T,
 ) -> Result<(), TellFault>
     requires fresh { IsLookAt book.now look.now.node look.now }
-    requires own { node_of (arc_value action.now) ≡ look.now.node }
-    requires found { IsUnfit (find_conf (Component.Node (node_of (arc_value action.now)))
-        (read_confs look.now.reads)) (arc_value action.now) found.now.name.now found.now.value }
+    requires own { node_of action.now ≡ look.now.node }
+    requires found { IsUnfit (find_conf (Component.Node (node_of action.now))
+        (read_confs look.now.reads)) action.now found.now.name.now found.now.value }
     ensures { OnOk result (TellsOn T.hears book.now book.now [] [] out.old out.new []) }
 {
     let event = Event::Unfit {
@@ -406,11 +404,11 @@ fn tell_step_fault<O: Origin, T: Tells>(
     alloc: Global,
     book: &Book<O>,
     look: &Snapshot<O>,
-    action: &Arc<Action>,
+    action: &Action,
     out: &mut T,
 ) -> Result<(), TellFault>
     requires fresh { IsLookAt book.now look.now.node look.now }
-    requires own { node_of (arc_value action.now) ≡ look.now.node }
+    requires own { node_of action.now ≡ look.now.node }
     ensures { OnOk result (TellsOn T.hears book.now book.now [] [] out.old out.new []) }
 {
     match find_faulted(alloc, look, action)? {
@@ -424,14 +422,14 @@ fn tell_faulted<O: Origin, T: Tells>(
     alloc: Global,
     book: &Book<O>,
     look: &Snapshot<O>,
-    action: &Arc<Action>,
+    action: &Action,
     found: &Faulted<'_>,
     out: &mut T,
 ) -> Result<(), TellFault>
     requires fresh { IsLookAt book.now look.now.node look.now }
-    requires own { node_of (arc_value action.now) ≡ look.now.node }
-    requires found { IsFaulted (find_conf (Component.Node (node_of (arc_value action.now)))
-        (read_confs look.now.reads)) (arc_value action.now) (told.place_of found.now.place)
+    requires own { node_of action.now ≡ look.now.node }
+    requires found { IsFaulted (find_conf (Component.Node (node_of action.now))
+        (read_confs look.now.reads)) action.now (told.place_of found.now.place)
         (fault_found found.now.fault) }
     ensures { OnOk result (TellsOn T.hears book.now book.now [] [] out.old out.new []) }
 {
@@ -449,13 +447,13 @@ fn tell_missed<O: Origin, T: Tells>(
     alloc: Global,
     book: &Book<O>,
     look: &Snapshot<O>,
-    action: &Arc<Action>,
+    action: &Action,
     out: &mut T,
 ) -> Result<(), TellFault>
     requires fresh { IsLookAt book.now look.now.node look.now }
-    requires missed { proposal_answer (arc_value action.now) look.now ≡ Err StepFault.NotEnabled }
+    requires missed { proposal_answer action.now look.now ≡ Err StepFault.NotEnabled }
     ensures { OnOk result (TellsOn T.hears book.now book.now [] [] out.old out.new
-        (mark.missed (arc_value action.now) ∷ [])) }
+        (mark.missed action.now ∷ [])) }
 {
     match reason_of(look, action) {
         Reason::Empty(queue) => {
@@ -476,13 +474,13 @@ fn tell_refused<O: Origin, T: Tells>(
     alloc: Global,
     book: &Book<O>,
     look: &Snapshot<O>,
-    action: &Arc<Action>,
+    action: &Action,
     out: &mut T,
 ) -> Result<(), TellFault>
     requires fresh { IsLookAt book.now look.now.node look.now }
-    requires missed { proposal_answer (arc_value action.now) look.now ≡ Err StepFault.NotEnabled }
+    requires missed { proposal_answer action.now look.now ≡ Err StepFault.NotEnabled }
     ensures { OnOk result (TellsOn T.hears book.now book.now [] [] out.old out.new
-        (mark.missed (arc_value action.now) ∷ [])) }
+        (mark.missed action.now ∷ [])) }
 {
     match find_falsified(alloc, look, action)? {
         None => tell_reason(alloc, book, look, action, Reason::Node, out),
@@ -495,16 +493,16 @@ fn tell_false<O: Origin, T: Tells>(
     alloc: Global,
     book: &Book<O>,
     look: &Snapshot<O>,
-    action: &Arc<Action>,
+    action: &Action,
     found: &Falsified<'_>,
     out: &mut T,
 ) -> Result<(), TellFault>
     requires fresh { IsLookAt book.now look.now.node look.now }
-    requires missed { proposal_answer (arc_value action.now) look.now ≡ Err StepFault.NotEnabled }
-    requires found { IsFalsified (find_conf (Component.Node (node_of (arc_value action.now)))
-        (read_confs look.now.reads)) (arc_value action.now) (false_part_found found.now) }
+    requires missed { proposal_answer action.now look.now ≡ Err StepFault.NotEnabled }
+    requires found { IsFalsified (find_conf (Component.Node (node_of action.now))
+        (read_confs look.now.reads)) action.now (false_part_found found.now) }
     ensures { OnOk result (TellsOn T.hears book.now book.now [] [] out.old out.new
-        (mark.missed (arc_value action.now) ∷ [])) }
+        (mark.missed action.now ∷ [])) }
 {
     let reason = Reason::False(found.test, found.part, found.values.as_slice());
     tell_reason(alloc, book, look, action, reason, out)
@@ -515,18 +513,18 @@ fn tell_reason<O: Origin, T: Tells>(
     alloc: Global,
     book: &Book<O>,
     look: &Snapshot<O>,
-    action: &Arc<Action>,
+    action: &Action,
     reason: Reason<'_>,
     out: &mut T,
 ) -> Result<(), TellFault>
     requires fresh { IsLookAt book.now look.now.node look.now }
-    requires missed { proposal_answer (arc_value action.now) look.now ≡ Err StepFault.NotEnabled }
-    requires queue { IsReason (queue_among (participants_of (arc_value action.now)) (read_confs look.now.reads))
-        (arc_value action.now) (told.reason_of reason) }
-    requires node { IsNodeReason (find_conf (Component.Node (node_of (arc_value action.now)))
-        (read_confs look.now.reads)) (arc_value action.now) (told.reason_of reason) }
+    requires missed { proposal_answer action.now look.now ≡ Err StepFault.NotEnabled }
+    requires queue { IsReason (queue_among (participants_of action.now) (read_confs look.now.reads))
+        action.now (told.reason_of reason) }
+    requires node { IsNodeReason (find_conf (Component.Node (node_of action.now))
+        (read_confs look.now.reads)) action.now (told.reason_of reason) }
     ensures { OnOk result (TellsOn T.hears book.now book.now [] [] out.old out.new
-        (mark.missed (arc_value action.now) ∷ [])) }
+        (mark.missed action.now ∷ [])) }
 {
     let number = look.length();
     out.event(

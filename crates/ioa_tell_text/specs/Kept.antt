@@ -36,7 +36,7 @@ same_why v w = false
 -- whether a node did the same twice: it was idle, or fired an action that was not enabled for the same reason
 abbrev pub same_passing : Passing → Passing → Bool
 same_passing Idle Idle = true
-same_passing (Missed e v) (Missed f w) = same_action e.action f.action && same_why v w
+same_passing (Missed a v) (Missed b w) = same_action a b && same_why v w
 same_passing p q = false
 
 -- whether something waits of this node

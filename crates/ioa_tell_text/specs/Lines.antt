@@ -42,8 +42,8 @@ fault_line names a why =
 -- `  idle @i`, or `  missed action@i: why`
 abbrev pub passing_text : List (List ℕ) → ℤ → Passing → List ℕ
 passing_text names n Idle = codes "  idle @" ++ signed_decimal n
-passing_text names n (Missed e w) =
-    codes "  missed " ++ (action_text names e.action ++ (at_text e.action ++ (codes ": " ++ why_text names w)))
+passing_text names n (Missed a w) =
+    codes "  missed " ++ (action_text names a ++ (at_text a ++ (codes ": " ++ why_text names w)))
 
 -- `   (n times)`, if that was more than once
 abbrev pub times_text : ℕ → List ℕ

@@ -4,7 +4,6 @@ use Rattle.std.specs.Fmt.{decimal}
 use Rattle.ioa_actions.specs.ActionParts.{node_of}
 use Rattle.ioa_paper.specs.Papers.{PlainPaper, and_text}
 use Rattle.ioa_record.specs.Endings.{ending_text}
-use Rattle.ioa_transitions.specs.Entries.{entry_of}
 use Rattle.ioa_tell.specs.Events.{PlainEvent, taken, missed, faulted, unfit, stuck, idle, stopped, ended}
 use Rattle.ioa_tell_text.specs.Kept.{is_of, next_waiting, same_passing, why_of, without}
 use Rattle.ioa_tell_text.specs.Lines.{fault_line, taken_line, waiting_text}
@@ -66,7 +65,7 @@ waits n p t =
 abbrev pub teller_after : PlainEvent → PlainTeller → PlainTeller
 teller_after (taken k e before after queue) t =
     and_written (flushed (node_of e.action) t) (taken_line t.names k e before after queue)
-teller_after (missed k a r) t = waits (node_of a) (Missed (entry_of a) (why_of t.names r)) t
+teller_after (missed k a r) t = waits (node_of a) (Missed a (why_of t.names r)) t
 teller_after (faulted k a place f) t =
     and_written (flushed (node_of a) t) (fault_line t.names a (stop_text t.names place f))
 teller_after (unfit k a w v) t =

@@ -91,7 +91,7 @@ fn put_passing<O: Out>(paper: &mut Paper<'_, O>, names: &Names, node: i64, passi
 {
     match passing {
         Passing::Idle => put_word(paper, "  idle @", node),
-        Passing::Missed(entry, why) => put_missed(paper, names, entry.action(), why),
+        Passing::Missed(action, why) => put_missed(paper, names, action, why),
     }
 }
 

@@ -1,13 +1,11 @@
 //! A run as a text.
 
 ghost use Rattle.std.specs.Prelude.{◌≡◌, ◌++◌, ◌∷◌, ◌<◌, [], OnOk, Some, None, false};
-ghost use Rattle.std.specs.Arc.{arc_value};
 ghost use Rattle.std.specs.Option.{option_copied};
 ghost use Rattle.std.specs.Vec.{vec_capacity};
 ghost use Rattle.ioa_actions.specs.ActionParts.{node_of};
 ghost use Rattle.ioa_paper.specs.Papers.{Ended};
 ghost use Rattle.ioa_reasons.specs.PlainReasons.{fault_of, place_of, reason_of, statement_place_of};
-ghost use Rattle.ioa_transitions.specs.Entries.{entry_of};
 ghost use Rattle.ioa_tell_text.specs.Kept.{once, why_of};
 ghost use Rattle.ioa_tell_text.specs.Lines.{fault_line, taken_line, waiting_text};
 ghost use Rattle.ioa_tell_text.specs.Stops.{stop_text, stuck_line, stuck_text, unfit_text};
@@ -29,7 +27,6 @@ use ioa_transitions::Entry;
 use ioa_values::{Names, Value, Word};
 use std::alloc::{AllocError, Global};
 use std::marker::Model;
-use std::sync::Arc;
 
 /// Writes what is told as a text: `k action   node i: x = v -> w; channel i -> j holds n` for an action that was taken,
 /// `  missed action@i: why   (n times)` for n misses one after another, `  fault action@i: why` for a fault of a step,
@@ -133,57 +130,58 @@ impl<'a, O: Out> TextTeller<'a, O> {
     fn missed(
         &mut self,
         alloc: Global,
-        action: &Arc<Action>,
+        action: &Action,
         reason: Reason<'_>,
     ) -> Result<(), AllocError>
-        ensures { OnOk result (self.new ≡ waits (node_of (arc_value action.now))
-            (Passing.Missed (entry_of (arc_value action.now)) (why_of self.old.names (reason_of reason.entry)))
+        ensures { OnOk result (self.new ≡ waits (node_of action.now)
+            (Passing.Missed action.now (why_of self.old.names (reason_of reason.entry)))
             self.old) }
     {
         let why = kept(alloc, self.names, reason)?;
         match taken_out(&mut self.waiting, action.node()) {
-            None => self.miss_first(action, why),
-            Some(last) => self.miss_behind(action, why, last),
+            None => self.miss_first(alloc, action, why),
+            Some(last) => self.miss_behind(alloc, action, why, last),
         }
     }
 
     /// The same, if this waited of the node.
     fn miss_behind(
         &mut self,
-        action: &Arc<Action>,
+        alloc: Global,
+        action: &Action,
         why: Why,
         last: Waiting,
     ) -> Result<(), AllocError>
-        ensures { OnOk result (self.new ≡ waits_behind (node_of (arc_value action.now))
-            (Passing.Missed (entry_of (arc_value action.now)) why) (Some last) self.old) }
+        ensures { OnOk result (self.new ≡ waits_behind (node_of action.now)
+            (Passing.Missed action.now why) (Some last) self.old) }
     {
         if last.passing.is_miss(action, &why) {
             self.wait(last.once_more())
         } else {
             self.write(last);
-            self.miss_first(action, why)
+            self.miss_first(alloc, action, why)
         }
     }
 
     /// The same, if nothing waits of the node.
-    fn miss_first(&mut self, action: &Arc<Action>, why: Why) -> Result<(), AllocError>
-        ensures { OnOk result (self.new ≡ with_waiting (once (node_of (arc_value action.now))
-            (Passing.Missed (entry_of (arc_value action.now)) why)) self.old) }
+    fn miss_first(&mut self, alloc: Global, action: &Action, why: Why) -> Result<(), AllocError>
+        ensures { OnOk result (self.new ≡ with_waiting (once (node_of action.now)
+            (Passing.Missed action.now why)) self.old) }
     {
-        let entry = Entry::of(Arc::try_clone(action)?);
-        self.wait(Waiting::once(action.node(), Passing::Missed(entry, why)))
+        let kept = action.try_copy(alloc)?;
+        self.wait(Waiting::once(action.node(), Passing::Missed(kept, why)))
     }
 
     /// Writes an action whose step met a fault.
     fn faulted(
         &mut self,
         alloc: Global,
-        action: &Arc<Action>,
+        action: &Action,
         place: Place<'_>,
         fault: Fault<'_>,
     ) -> Result<(), AllocError>
-        ensures { OnOk result (self.new ≡ and_written (flushed (node_of (arc_value action.now)) self.old)
-            (fault_line self.old.names (arc_value action.now)
+        ensures { OnOk result (self.new ≡ and_written (flushed (node_of action.now) self.old)
+            (fault_line self.old.names action.now
             (stop_text self.old.names (place_of place.entry) (fault_of fault.entry)))) }
     {
         let why = stop_text(alloc, self.names, place, fault)?;
@@ -195,12 +193,12 @@ impl<'a, O: Out> TextTeller<'a, O> {
     fn unfit(
         &mut self,
         alloc: Global,
-        action: &Arc<Action>,
+        action: &Action,
         name: &Word,
         value: &Value,
     ) -> Result<(), AllocError>
-        ensures { OnOk result (self.new ≡ and_written (flushed (node_of (arc_value action.now)) self.old)
-            (fault_line self.old.names (arc_value action.now) (unfit_text self.old.names name.now value.now))) }
+        ensures { OnOk result (self.new ≡ and_written (flushed (node_of action.now) self.old)
+            (fault_line self.old.names action.now (unfit_text self.old.names name.now value.now))) }
     {
         let why = unfit_text(alloc, self.names, name, value)?;
         self.write_fault(action, &why);
@@ -208,9 +206,9 @@ impl<'a, O: Out> TextTeller<'a, O> {
     }
 
     /// Writes the line of an action that met a fault, behind what waits of its node.
-    fn write_fault(&mut self, action: &Arc<Action>, why: &KeptText)
-        ensures { self.new ≡ and_written (flushed (node_of (arc_value action.now)) self.old)
-            (fault_line self.old.names (arc_value action.now) why.now) }
+    fn write_fault(&mut self, action: &Action, why: &KeptText)
+        ensures { self.new ≡ and_written (flushed (node_of action.now) self.old)
+            (fault_line self.old.names action.now why.now) }
     {
         self.flush(action.node());
         put_fault(&mut self.paper, self.names, action, why);

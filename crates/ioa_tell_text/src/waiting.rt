@@ -4,7 +4,6 @@ ghost use Rattle.std.specs.Prelude.{◌≡◌, IfOk};
 ghost use Rattle.ioa_channels.specs.Fronts.{front_item};
 ghost use Rattle.ioa_channels.specs.Queues.{same_item};
 ghost use Rattle.ioa_reasons.specs.PlainReasons.{reason_of};
-ghost use Rattle.ioa_transitions.specs.Entries.{entry_of};
 ghost use Rattle.ioa_tell_text.specs.Kept as spec;
 ghost use Rattle.ioa_tell_text.specs.Kept.{same_passing, same_why, why_of};
 
@@ -13,7 +12,6 @@ use crate::tests::false_text;
 use ioa_actions::{Action, Component};
 use ioa_channels::{Front, Item};
 use ioa_reasons::Reason;
-use ioa_transitions::Entry;
 use ioa_values::Names;
 use std::alloc::{AllocError, Global};
 
@@ -37,8 +35,8 @@ pub(crate) enum Why {
 pub(crate) enum Passing {
     /// It was idle.
     Idle,
-    /// It fired the action of this entry, which was not enabled.
-    Missed(Entry, Why),
+    /// It fired this action, which was not enabled.
+    Missed(Action, Why),
 }
 
 /// What a node did last, so many times, if that took no action. It waits until the node does something else.
@@ -98,11 +96,11 @@ impl Waiting {
 impl Passing {
     /// Whether it is the miss of this action for this reason.
     pub(crate) fn is_miss(&self, action: &Action, why: &Why) -> bool
-        ensures { result ≡ same_passing self.now (Passing.Missed (entry_of action.now) why.now) }
+        ensures { result ≡ same_passing self.now (Passing.Missed action.now why.now) }
     {
         match self {
             Passing::Idle => false,
-            Passing::Missed(kept, last) => kept.action().equals(action) && is_why(last, why),
+            Passing::Missed(kept, last) => kept.equals(action) && is_why(last, why),
         }
     }
 

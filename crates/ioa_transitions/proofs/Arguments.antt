@@ -25,7 +25,7 @@ use Rattle.ioa_source.specs.Sides.{CheckedDeclared, CheckedEntry, CheckedParamet
 use Rattle.ioa_system.specs.InView.{declared_names, given_bindings, names_at, own_names, parameter_names, variable_names, scope_at}
 use Rattle.ioa_system.specs.InView.{entry_constant, entry_condition, guard_or_effect}
 use Rattle.ioa_system.specs.Parts.{AutomatonParts}
-use Rattle.ioa_transitions.specs.NodeAnswers.{effect_answer, arguments_agree, parameter_agrees, are_natural, entry_agrees, kind_agrees}
+use Rattle.ioa_transitions.specs.NodeAnswers.{Taken, taken, effect_answer, arguments_agree, parameter_agrees, are_natural, entry_agrees, kind_agrees}
 use Rattle.ioa_transitions.specs.NodeStep.{own_value, own_values}
 
 second_true : (a b : Bool) → a && b ≡ true → b ≡ true
@@ -121,13 +121,13 @@ are_natural_end f (p ∷ ps) (v ∷ vs) zero h = absurd (omega arith)
 are_natural_end f (p ∷ ps) (v ∷ vs) (suc i) h = are_natural_end f ps vs i (omega arith)
 
 -- the first n values that an effect leaves
-pub effect_answer_environment : (n : ℕ) (names : List Name) (vs : List Data) (cs : List (List ℕ)) → length names ≡ length vs → n ≤ length vs → (c : Source) → effect_answer n (Ok (left (environment names vs cs) c)) ≡ Ok (take n vs)
+pub effect_answer_environment : (n : ℕ) (names : List Name) (vs : List Data) (cs : List (List ℕ)) → length names ≡ length vs → n ≤ length vs → (c : Source) → effect_answer n (Ok (left (environment names vs cs) c)) ≡ Ok (taken (take n vs) c)
 effect_answer_environment n names vs cs many within c =
     let behind : List Data = map (λ (b : Name × Data). b.1) (constants_from 0 cs) in
     let split : map (λ (b : Name × Data). b.1) (environment names vs cs) ≡ vs ++ behind =
     map-append (λ (b : Name × Data). b.1) (zip names vs) (constants_from 0 cs)
     ∙ ap (λ (ds : List Data). ds ++ behind) (seconds-zip names vs (sym many)) in
-    ap (λ (ds : List Data). Ok (take n ds)) split ∙ ap Ok (take-append-le n vs behind within)
+    ap (λ (ds : List Data). Ok (taken (take n ds) c)) split ∙ ap (λ (ds : List Data). Ok (taken ds c)) (take-append-le n vs behind within)
 
 -- arguments that fit have as many values of their own as the parameters have names
 pub own_values_named : (b : Bindings) (ps : List CheckedParameter) (vs : List Data) → arguments_agree b ps vs ≡ true → length (own_values ps vs) ≡ length (own_names ps)
@@ -148,7 +148,8 @@ agreeing_arguments b a e h =
 pub own_named : (b : Bindings) (a : Action) (e : CheckedEntry) → entry_agrees b a e ≡ true → length (own_names e.parameters) ≡ length (own_values e.parameters (action_arguments a))
 own_named b a e h = sym (own_values_named b e.parameters (action_arguments a) (agreeing_arguments b a e h))
 
--- so many names are in view in the condition of an entry: one for each value of the automaton's and of its own parameters
+-- so many names are in view in the condition of an entry: one for each value of the automaton's and of its own
+-- parameters
 pub condition_named : (p : AutomatonParts) (own : List (List ℕ)) (given values : List Data) → length given ≡ length p.parameters → length own ≡ length values →
     length (scope_at entry_condition (declared_names p) own) ≡ length (given ++ values)
 condition_named p own given values g h =
@@ -189,11 +190,11 @@ pub condition_valued : (p : AutomatonParts) (own : List (List ℕ)) (given value
 condition_valued p own given values g h = condition_named p own given values g h ∙ ap length (sym (condition_values given values))
 
 -- the values that an effect leaves
-pub effect_answer_view : (v : View) (vs ws : List Data) (r : Result Left EffectFault) (c : Source) → IsNamed v vs → length ws ≡ length vs → r ≡ Ok (left (environment_of v ws) c) → effect_answer (length vs) r ≡ Ok ws
+pub effect_answer_view : (v : View) (vs ws : List Data) (r : Result Left EffectFault) (c : Source) → IsNamed v vs → length ws ≡ length vs → r ≡ Ok (left (environment_of v ws) c) → effect_answer (length vs) r ≡ Ok (taken ws c)
 effect_answer_view v vs ws r c valued kept e =
     let lent = lent_values v.lent in
     let before = length-append vs lent in
     let many = length-append ws lent in
     ap (effect_answer (length vs)) e
     ∙ effect_answer_environment (length vs) (all_names v) (all_values v ws) v.constants.now (omega arith) (omega arith) c
-    ∙ ap (λ (ds : List Data). Ok ds) (ap (λ k. take k (ws ++ lent)) (sym kept) ∙ take-append-le (length ws) ws lent (omega arith) ∙ take_all (length ws) ws (omega arith))
+    ∙ ap (λ (ds : List Data). Ok (taken ds c)) (ap (λ k. take k (ws ++ lent)) (sym kept) ∙ take-append-le (length ws) ws lent (omega arith) ∙ take_all (length ws) ws (omega arith))

@@ -7,9 +7,10 @@ use Rattle.ioa_values.specs.DataOrder.{same}
 use Rattle.ioa_terms.specs.Bindings.{Bindings, same_word}
 use Rattle.ioa_terms.specs.Meaning.{answer}
 use Rattle.ioa_terms.specs.Performance.{answer_by}
-use Rattle.ioa_terms.specs.Choices.{Left, left, given}
+use Rattle.ioa_terms.specs.Choices.{Source, made_values, given, yielded, Left, left}
 use Rattle.ioa_terms.specs.declared.choices.EffectFault.{EffectFault}
 use Rattle.ioa_terms.specs.declared.choices.EffectFault.TheVariants as effect
+use Rattle.ioa_transitions.specs.Entries.{PlainEntry, entry}
 use Rattle.ioa_terms.specs.declared.tree.Kind.{Kind}
 use Rattle.ioa_terms.specs.declared.tree.Kind.TheVariants.{Input, Output, Internal}
 use Rattle.ioa_actions.specs.ActionParts.{send_name, receive_name, action_name, action_arguments}
@@ -106,18 +107,25 @@ effect_step_fault effect.Range = step.Range
 effect_step_fault effect.Memory = step.Memory
 effect_step_fault effect.NoChoice = step.NoChoice
 
--- the values of the state variables after an effect
-abbrev pub effect_answer : ℕ → Result Left EffectFault → Result (List Data) StepFault
-effect_answer n (Ok l) = Ok (take n (map (λ b. b.1) l.bindings))
+-- the values of the state variables after an effect, and where further choices would take theirs
+pub record Taken : Type 0 where
+  pub values : List Data
+  pub source : Source
+
+abbrev pub taken : List Data → Source → Taken
+taken vs c = record { values = vs; source = c }
+
+abbrev pub effect_answer : ℕ → Result Left EffectFault → Result Taken StepFault
+effect_answer n (Ok l) = Ok (taken (take n (map (λ b. b.1) l.bindings)) l.source)
 effect_answer n (Err f) = Err (effect_step_fault f)
 
 -- the result of a transition over n state variables: their new values, or the first fault of guard and effect
-abbrev pub transition_answer : ℕ → CheckedTransition → Left → Result (List Data) StepFault
+abbrev pub transition_answer : ℕ → CheckedTransition → Left → Result Taken StepFault
 transition_answer n t l = and_then (guard_answer t.pre l.bindings) (λ _. effect_answer n (answer_by t.effect l))
 
 -- the result of a rule for these arguments, over n state variables: the first fault of the arguments, of the entry's
 -- condition, which reads the first bindings, and of the guard and the effect, which read the second; or the new values
-abbrev pub step_answer : ℕ → PlainRule → List Data → Bindings → Left → Result (List Data) StepFault
+abbrev pub step_answer : ℕ → PlainRule → List Data → Bindings → Left → Result Taken StepFault
 step_answer n r args e l =
     and_then (naturals_answer r.entry.parameters args)
     (λ _. and_then (guard_answer r.entry.condition e) (λ _. transition_answer n r.transition l))
@@ -126,18 +134,31 @@ step_answer n r args e l =
 abbrev pub rule_for : Parts → Action → Option PlainRule
 rule_for p a = find (λ r. entry_agrees (given_bindings p.automaton p.arguments) a r.entry) p.automaton.rules
 
--- the values of a node's variables after an action, by the rule of that action: no value is given to the choices of its
--- effect
-abbrev pub rule_answer : NodeState → Action → Option PlainRule → Result (List Data) StepFault
-rule_answer c a None = Err NotMine
-rule_answer c a (Some r) =
+-- the values of a node's variables after an action, by the rule of that action, if choices take theirs from here
+abbrev pub rule_answer : NodeState → Action → Source → Option PlainRule → Result Taken StepFault
+rule_answer c a s None = Err NotMine
+rule_answer c a s (Some r) =
     step_answer (length c.variables) r (action_arguments a)
-    (rule_bindings entry_condition r a c) (left (rule_bindings guard_or_effect r a c) (given []))
+    (rule_bindings entry_condition r a c) (left (rule_bindings guard_or_effect r a c) s)
 
 -- the values of a node's variables after an action, or why the action is no step
-abbrev pub values_answer : NodeState → Action → Result (List Data) StepFault
-values_answer c a = rule_answer c a (rule_for c.program a)
+abbrev pub values_answer : NodeState → Action → Source → Result Taken StepFault
+values_answer c a s = rule_answer c a s (rule_for c.program a)
 
--- the result of an action at a node: its new configuration, or why there is none
-unfoldable pub node_answer : NodeState → Action → Result NodeState StepFault
-node_answer c a = and_then (values_answer c a) (λ vs. Ok (node_state c.program vs))
+-- all values that were given were taken
+abbrev pub all_taken : Parts → Taken → Source → Result NodeState StepFault
+all_taken p t (given []) = Ok (node_state p t.values)
+all_taken p t (given (v ∷ vs)) = Err step.NoChoice
+all_taken p t (yielded vs) = Err step.NoChoice
+
+-- the result of an entry at a node, which is taken again with the values that it has: the node's new configuration, or
+-- why there is none
+unfoldable pub redo_answer : NodeState → PlainEntry → Result NodeState StepFault
+redo_answer c e = and_then (values_answer c e.action (given e.chosen)) (λ t. all_taken c.program t t.source)
+
+-- the result of an action at a node, whose effect chooses by its own terms: the entry of its step, and the node's new
+-- configuration
+unfoldable pub pick_answer : NodeState → Action → Result (PlainEntry × NodeState) StepFault
+pick_answer c a =
+    and_then (values_answer c a (yielded []))
+    (λ t. Ok (entry a (made_values t.source), node_state c.program t.values))

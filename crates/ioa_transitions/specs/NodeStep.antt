@@ -10,6 +10,7 @@ use Rattle.ioa_terms.specs.Bindings.{Bindings, lookup}
 use Rattle.ioa_terms.specs.Meaning.{value, numbers_met}
 use Rattle.ioa_terms.specs.Choices.{left, given}
 use Rattle.ioa_terms.specs.Performance.{after, numbers_met_by}
+use Rattle.ioa_transitions.specs.Entries.{PlainEntry}
 use Rattle.ioa_actions.specs.ActionParts.{send_name, receive_name, action_name, action_arguments}
 use Rattle.ioa_actions.specs.declared.action.Action.{Action}
 use Rattle.ioa_actions.specs.declared.action.Action.TheVariants.{Send, Receive, Local, Stimulus}
@@ -80,16 +81,16 @@ GuardHolds None e = Unit {0}
 GuardHolds (Some t) e = value t e ≡ Some (truth true)
 
 -- a step of a node from one configuration to another (Lynch 8.1): a rule of the program has the action, each argument
--- is of its sort, the entry's condition and the guard hold, each state variable has by its name the value that the
--- effect leaves, which chooses nothing, and the program stays
-pub record IsNodeStep (a : Action) (c d : NodeState) : Type 0 where
+-- is of its sort, the entry's condition and the guard hold, the effect chooses the values of the entry, in order, and
+-- no others, each state variable has by its name the value that the effect leaves, and the program stays
+pub record IsNodeStep (e : PlainEntry) (c d : NodeState) : Type 0 where
   pub rule : PlainRule
-  pub mine : HasRule c.program a rule
-  pub sorts : AllZip IsOfSort rule.entry.parameters (action_arguments a)
-  pub condition : GuardHolds rule.entry.condition (rule_bindings entry_condition rule a c)
-  pub guard : GuardHolds rule.transition.pre (rule_bindings guard_or_effect rule a c)
+  pub mine : HasRule c.program e.action rule
+  pub sorts : AllZip IsOfSort rule.entry.parameters (action_arguments e.action)
+  pub condition : GuardHolds rule.entry.condition (rule_bindings entry_condition rule e.action c)
+  pub guard : GuardHolds rule.transition.pre (rule_bindings guard_or_effect rule e.action c)
   pub reached : Bindings
-  pub effect : after rule.transition.effect (left (rule_bindings guard_or_effect rule a c) (given []))
+  pub effect : after rule.transition.effect (left (rule_bindings guard_or_effect rule e.action c) (given e.chosen))
       ≡ Ok (left reached (given []))
   pub variables : map (λ x. lookup (Word x) reached) (variable_names c.program.automaton.variables)
       ≡ map Some d.variables
@@ -112,14 +113,14 @@ numbers_met_by_guard (Some t) e = numbers_met t e
 
 -- the results that a rule meets by an action at a node: the constants of its entry, the entry's condition, the guard
 -- and the effect, one after another
-abbrev pub numbers_met_by_rule : PlainRule → Action → NodeState → List Data
-numbers_met_by_rule r a c =
+abbrev pub numbers_met_by_rule : PlainRule → PlainEntry → NodeState → List Data
+numbers_met_by_rule r e c =
     numbers_met_by_parameters (given_bindings c.program.automaton c.program.arguments) r.entry.parameters
-    ++ (numbers_met_by_guard r.entry.condition (rule_bindings entry_condition r a c)
-    ++ (numbers_met_by_guard r.transition.pre (rule_bindings guard_or_effect r a c)
-    ++ numbers_met_by r.transition.effect (left (rule_bindings guard_or_effect r a c) (given []))))
+    ++ (numbers_met_by_guard r.entry.condition (rule_bindings entry_condition r e.action c)
+    ++ (numbers_met_by_guard r.transition.pre (rule_bindings guard_or_effect r e.action c)
+    ++ numbers_met_by r.transition.effect (left (rule_bindings guard_or_effect r e.action c) (given e.chosen))))
 
 -- every number that a rule of an action meets lies within 64 bits (profile)
-abbrev pub FitsNodeStep : Action → NodeState → Type 0
-FitsNodeStep a c =
-    (r : PlainRule) → HasRule c.program a r → list_all is_within (numbers_met_by_rule r a c) ≡ true
+abbrev pub FitsNodeStep : PlainEntry → NodeState → Type 0
+FitsNodeStep e c =
+    (r : PlainRule) → HasRule c.program e.action r → list_all is_within (numbers_met_by_rule r e c) ≡ true

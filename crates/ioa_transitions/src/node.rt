@@ -1,15 +1,19 @@
 //! Node configurations and their steps.
 
-ghost use Rattle.std.specs.Prelude.{◌≡◌, ◌↔◌, IfOk, IsTrue, length};
+ghost use Rattle.std.specs.Prelude.{◌≡◌, ◌↔◌, IfOk, IsTrue, [], length};
 ghost use Rattle.ioa_values.specs.Outcome.{Answers};
-ghost use Rattle.ioa_transitions.specs.NodeAnswers.{node_answer};
+ghost use Rattle.ioa_terms.specs.Choices.{made_values, source_of, yielded};
+ghost use Rattle.ioa_transitions.specs.Entries.{entry};
+ghost use Rattle.ioa_transitions.specs.NodeAnswers.{pick_answer, redo_answer};
 ghost use Rattle.ioa_transitions.specs.SameNodes.{same_node};
 ghost use Rattle.std.specs.Arc.{arc_value};
 ghost use Rattle.ioa_transitions.specs.NodeState.{node_state};
 
+use crate::entry::Entry;
 use crate::rule::values_after;
 use ioa_actions::{Action, StepFault};
 use ioa_system::Program;
+use ioa_terms::Choices;
 use ioa_values::{Value, copies};
 use std::alloc::{AllocError, Global};
 use std::marker::Model;
@@ -105,17 +109,20 @@ impl NodeConf {
         Ok(NodeConf { program, variables })
     }
 
-    /// The configuration after an action (Lynch 8.1). `NotMine` (41) if the action is not in the node's signature;
-    /// else the first fault of the arguments, the entry's condition, the guard and the effect: `Range` (2) if a
-    /// number met lies outside 64 bits, `Undefined` (1) if a part has no value or an argument holds a negative number
-    /// where its sort says Nat, `NotEnabled` (40) if the condition or the guard is not true. It is meant for an action
-    /// in which the node takes part, and does not test that.
+    /// The configuration after an action (Lynch 8.1) whose effect chooses by its own terms, and the values that it
+    /// chose, in order. `NotMine` (41) if the action is not in the node's signature; else the first fault of the
+    /// arguments, the entry's condition, the guard and the effect: `Range` (2) if a number met lies outside 64 bits,
+    /// `Undefined` (1) if a part has no value or an argument holds a negative number where its sort says Nat,
+    /// `NotEnabled` (40) if the condition or the guard is not true, `NoChoice` (43) if the condition of a choice is
+    /// not. It is meant for an action in which the node takes part, and does not test that.
     #[inline(never)]
-    #[tactic(auto, unfolding(crate::specs::NodeAnswers::node_answer))]
-    pub fn step(&self, alloc: Global, action: &Action) -> Result<Self, StepFault>
-        ensures { Answers StepFault.Memory (λ c. c) result (node_answer self.now action.now) }
+    #[tactic(auto, unfolding(crate::specs::NodeAnswers::pick_answer))]
+    pub fn step(&self, alloc: Global, action: &Action) -> Result<(Self, Vec<Value>), StepFault>
+        ensures { Answers StepFault.Memory (λ t. (entry action.now t.1.items, t.0)) result
+            (pick_answer self.now action.now) }
     {
         let mut variables = Vec::new(alloc);
+        let mut choices = Choices::Yielded(Vec::new(alloc));
         values_after(
             alloc,
             &self.program,
@@ -123,44 +130,81 @@ impl NodeConf {
             action,
             None,
             &mut variables,
+            &mut choices,
         )?;
+        let program = Arc::try_clone(&self.program)?;
+        let next = NodeConf { program, variables };
+        Ok((next, choices.into_made(alloc)))
+    }
+
+    /// The configuration after the step of an entry (Lynch 8.1), which is taken again: its effect chooses the values of
+    /// the entry. The faults are those of `step`; `NoChoice` (43) also if a value is missing, left over or not of the
+    /// choice's sort.
+    #[inline(never)]
+    #[tactic(auto, unfolding(crate::specs::NodeAnswers::redo_answer))]
+    pub fn redo(&self, alloc: Global, entry: &Entry) -> Result<Self, StepFault>
+        ensures { Answers StepFault.Memory (λ c. c) result (redo_answer self.now entry.now) }
+    {
+        let mut variables = Vec::new(alloc);
+        let mut choices = Choices::Given(entry.chosen());
+        values_after(
+            alloc,
+            &self.program,
+            &self.variables,
+            entry.action(),
+            None,
+            &mut variables,
+            &mut choices,
+        )?;
+        if !choices.is_used_up() {
+            return Err(StepFault::NoChoice);
+        }
         let program = Arc::try_clone(&self.program)?;
         Ok(NodeConf { program, variables })
     }
 
-    /// The same step, written over another configuration: if that has as many values, their room is used again. After a
-    /// fault it is some configuration. If `rule_number` is that of the action's rule, the rule is not searched for.
+    /// The same step as `step`, written over another configuration: if that has as many values, their room is used
+    /// again. After a fault it is some configuration. The values that are chosen stand in the choices, of which none
+    /// was made before. If `rule_number` is that of the action's rule, the rule is not searched for.
     #[inline(always)]
-    #[tactic(auto, unfolding(crate::specs::NodeAnswers::node_answer))]
+    #[tactic(auto, unfolding(crate::specs::NodeAnswers::pick_answer))]
     pub fn step_over(
         &self,
         alloc: Global,
         action: &Action,
         rule_number: Option<usize>,
         next: &mut NodeConf,
+        choices: &mut Choices,
     ) -> Result<(), StepFault>
-        ensures { Answers StepFault.Memory (λ _. next.new) result (node_answer self.now action.now) }
+        requires { source_of choices.old ≡ yielded [] }
+        ensures { Answers StepFault.Memory (λ _. (entry action.now (made_values (source_of choices.new)), next.new))
+            result (pick_answer self.now action.now) }
     {
         if next.variables.len() == self.variables.len() {
-            self.write_step(alloc, action, rule_number, next)
+            self.write_step(alloc, action, rule_number, next, choices)
         } else {
-            *next = self.step(alloc, action)?;
+            let (conf, chosen) = self.step(alloc, action)?;
+            *next = conf;
+            *choices = Choices::Yielded(chosen);
             Ok(())
         }
     }
 
     /// The same over a configuration that has as many values.
     #[inline(always)]
-    #[tactic(auto, unfolding(crate::specs::NodeAnswers::node_answer))]
+    #[tactic(auto, unfolding(crate::specs::NodeAnswers::pick_answer))]
     fn write_step(
         &self,
         alloc: Global,
         action: &Action,
         rule_number: Option<usize>,
         next: &mut NodeConf,
+        choices: &mut Choices,
     ) -> Result<(), StepFault>
-        requires { length next.old.variables ≡ length self.now.variables }
-        ensures { Answers StepFault.Memory (λ _. next.new) result (node_answer self.now action.now) }
+        requires same { length next.old.variables ≡ length self.now.variables }
+        requires none { source_of choices.old ≡ yielded [] }
+        ensures { Answers StepFault.Memory (λ _. (entry action.now (made_values (source_of choices.new)), next.new))
+            result (pick_answer self.now action.now) }
     {
         next.program = Arc::try_clone(&self.program)?;
         values_after(
@@ -170,6 +214,7 @@ impl NodeConf {
             action,
             rule_number,
             &mut next.variables,
+            choices,
         )?;
         Ok(())
     }

@@ -18,7 +18,7 @@ ghost use Rattle.ioa_transitions.specs.NodeAnswers as spec;
 ghost use Rattle.ioa_transitions.specs.NodeStep.{own_value, own_values};
 ghost use Rattle.ioa_terms.specs.Meaning.{answer};
 ghost use Rattle.ioa_terms.specs.Performance.{answer_by};
-ghost use Rattle.ioa_terms.specs.Choices.{left, given};
+ghost use Rattle.ioa_terms.specs.Choices.{left, source_of};
 ghost use Rattle.ioa_terms.specs.Resolved.{AreResolved, IsResolved};
 ghost use Rattle.ioa_terms.specs.Bindings.{lookup, same_word, slot_in};
 ghost use Rattle.ioa_operators.specs.RangeCheck.{checked_result};
@@ -328,8 +328,9 @@ fn rule_among<'a>(
     Ok(None)
 }
 
-/// Puts the values of a node's state variables after an action into a list, in place of what is there. `rule_number` is
-/// that of the action's rule, if it is known.
+/// Puts the values of a node's state variables after an action into a list, in place of what is there. The action's
+/// effect takes the values that it chooses as `choices` says. `rule_number` is that of the action's rule, if it is
+/// known.
 #[inline(always)]
 pub fn values_after(
     alloc: Global,
@@ -338,10 +339,11 @@ pub fn values_after(
     action: &Action,
     rule_number: Option<usize>,
     values: &mut Vec<Value>,
+    choices: &mut Choices,
 ) -> Result<(), StepFault>
     requires valued { length variables.now ≡ length program.now.automaton.variables }
-    ensures after { Answers StepFault.Memory (λ _. values.new.items) result
-        (spec.values_answer (node_state program.now variables.now) action.now) }
+    ensures after { Answers StepFault.Memory (λ _. spec.taken values.new.items (source_of choices.new)) result
+        (spec.values_answer (node_state program.now variables.now) action.now (source_of choices.old)) }
     ensures valued { OnOk result (length values.new.items ≡ length variables.now) }
     ensures kept { length values.old.items ≡ length variables.now → length values.new.items ≡ length variables.now }
 {
@@ -357,6 +359,7 @@ pub fn values_after(
                 *from,
                 *to,
                 values,
+                choices,
             )
         }
         Action::Local(own) | Action::Stimulus(own) => {
@@ -369,6 +372,7 @@ pub fn values_after(
                 rule_number,
                 arguments,
                 values,
+                choices,
             )
         }
     }
@@ -386,11 +390,12 @@ fn values_by_message(
     from: i64,
     to: i64,
     values: &mut Vec<Value>,
+    choices: &mut Choices,
 ) -> Result<(), StepFault>
     requires valued { length variables.now ≡ length program.now.automaton.variables }
     requires own { action_arguments action.now ≡ message.now ∷ number from ∷ number to ∷ [] }
-    ensures after { Answers StepFault.Memory (λ _. values.new.items) result
-        (spec.values_answer (node_state program.now variables.now) action.now) }
+    ensures after { Answers StepFault.Memory (λ _. spec.taken values.new.items (source_of choices.new)) result
+        (spec.values_answer (node_state program.now variables.now) action.now (source_of choices.old)) }
     ensures valued { OnOk result (length values.new.items ≡ length variables.now) }
     ensures kept { length values.old.items ≡ length variables.now → length values.new.items ≡ length variables.now }
 {
@@ -405,6 +410,7 @@ fn values_by_message(
             from,
             to,
             values,
+            choices,
         ),
         _ => values_by_copy(
             alloc,
@@ -416,6 +422,7 @@ fn values_by_message(
             from,
             to,
             values,
+            choices,
         ),
     }
 }
@@ -432,11 +439,12 @@ fn values_by_numbers(
     from: i64,
     to: i64,
     values: &mut Vec<Value>,
+    choices: &mut Choices,
 ) -> Result<(), StepFault>
     requires valued { length variables.now ≡ length program.now.automaton.variables }
     requires own { action_arguments action.now ≡ number message ∷ number from ∷ number to ∷ [] }
-    ensures after { Answers StepFault.Memory (λ _. values.new.items) result
-        (spec.values_answer (node_state program.now variables.now) action.now) }
+    ensures after { Answers StepFault.Memory (λ _. spec.taken values.new.items (source_of choices.new)) result
+        (spec.values_answer (node_state program.now variables.now) action.now (source_of choices.old)) }
     ensures valued { OnOk result (length values.new.items ≡ length variables.now) }
     ensures kept { length values.old.items ≡ length variables.now → length values.new.items ≡ length variables.now }
 {
@@ -453,6 +461,7 @@ fn values_by_numbers(
         rule_number,
         &*arguments,
         values,
+        choices,
     )
 }
 
@@ -468,11 +477,12 @@ fn values_by_copy(
     from: i64,
     to: i64,
     values: &mut Vec<Value>,
+    choices: &mut Choices,
 ) -> Result<(), StepFault>
     requires valued { length variables.now ≡ length program.now.automaton.variables }
     requires own { action_arguments action.now ≡ message.now ∷ number from ∷ number to ∷ [] }
-    ensures after { Answers StepFault.Memory (λ _. values.new.items) result
-        (spec.values_answer (node_state program.now variables.now) action.now) }
+    ensures after { Answers StepFault.Memory (λ _. spec.taken values.new.items (source_of choices.new)) result
+        (spec.values_answer (node_state program.now variables.now) action.now (source_of choices.old)) }
     ensures valued { OnOk result (length values.new.items ≡ length variables.now) }
     ensures kept { length values.old.items ≡ length variables.now → length values.new.items ≡ length variables.now }
 {
@@ -486,6 +496,7 @@ fn values_by_copy(
         rule_number,
         &arguments,
         values,
+        choices,
     )
 }
 
@@ -499,17 +510,18 @@ fn values_by(
     rule_number: Option<usize>,
     arguments: &[Value],
     values: &mut Vec<Value>,
+    choices: &mut Choices,
 ) -> Result<(), StepFault>
     requires valued { length variables.now ≡ length program.now.automaton.variables }
     requires own { arguments.now ≡ action_arguments action.now }
-    ensures after { Answers StepFault.Memory (λ _. values.new.items) result
-        (spec.values_answer (node_state program.now variables.now) action.now) }
+    ensures after { Answers StepFault.Memory (λ _. spec.taken values.new.items (source_of choices.new)) result
+        (spec.values_answer (node_state program.now variables.now) action.now (source_of choices.old)) }
     ensures valued { OnOk result (length values.new.items ≡ length variables.now) }
     ensures kept { length values.old.items ≡ length variables.now → length values.new.items ≡ length variables.now }
 {
     match rule_for(alloc, program, action, rule_number, arguments)? {
         None => Err(StepFault::NotMine),
-        Some(rule) => take_transition(alloc, program, rule, arguments, variables, values),
+        Some(rule) => take_transition(alloc, program, rule, arguments, variables, values, choices),
     }
 }
 
@@ -524,25 +536,27 @@ fn take_transition(
     arguments: &[Value],
     variables: &[Value],
     values: &mut Vec<Value>,
+    choices: &mut Choices,
 ) -> Result<(), StepFault>
     // the names in the rule are resolved, and each has a value
     requires resolved { IsResolvedRule (declared_names program.now.automaton) rule.now }
     requires valued { length variables.now ≡ length program.now.automaton.variables }
     requires own { length rule.now.own ≡ length (own_values rule.now.entry.parameters arguments.now) }
     // the new values, one for each variable
-    ensures after { Answers StepFault.Memory (λ _. values.new.items) result
+    ensures after { Answers StepFault.Memory (λ _. spec.taken values.new.items (source_of choices.new)) result
         (spec.step_answer (length variables.now) rule.now arguments.now
         (environment_at entry_condition (declared_names program.now.automaton) rule.now.own
         program.now.arguments variables.now (own_values rule.now.entry.parameters arguments.now))
         (left (environment_at guard_or_effect (declared_names program.now.automaton) rule.now.own
-        program.now.arguments variables.now (own_values rule.now.entry.parameters arguments.now)) (given []))) }
+        program.now.arguments variables.now (own_values rule.now.entry.parameters arguments.now))
+        (source_of choices.old))) }
     ensures valued { OnOk result (length values.new.items ≡ length variables.now) }
     ensures kept { length values.old.items ≡ length variables.now → length values.new.items ≡ length variables.now }
 {
     pass_naturals(&rule.entry.parameters, arguments)?;
     match lent_own(&rule.entry.parameters, arguments) {
-        Some(own) => pass_own(alloc, program, rule, own, variables, values),
-        None => pass_copies(alloc, program, rule, arguments, variables, values),
+        Some(own) => pass_own(alloc, program, rule, own, variables, values, choices),
+        None => pass_copies(alloc, program, rule, arguments, variables, values, choices),
     }
 }
 
@@ -556,22 +570,24 @@ fn pass_copies(
     arguments: &[Value],
     variables: &[Value],
     values: &mut Vec<Value>,
+    choices: &mut Choices,
 ) -> Result<(), StepFault>
     requires resolved { IsResolvedRule (declared_names program.now.automaton) rule.now }
     requires valued { length variables.now ≡ length program.now.automaton.variables }
     requires own { length rule.now.own ≡ length (own_values rule.now.entry.parameters arguments.now) }
-    ensures after { Answers StepFault.Memory (λ _. values.new.items) result
+    ensures after { Answers StepFault.Memory (λ _. spec.taken values.new.items (source_of choices.new)) result
         (and_then (spec.guard_answer rule.now.entry.condition
         (environment_at entry_condition (declared_names program.now.automaton) rule.now.own
         program.now.arguments [] (own_values rule.now.entry.parameters arguments.now)))
         (λ _. spec.transition_answer (length variables.now) rule.now.transition
         (left (environment_at guard_or_effect (declared_names program.now.automaton) rule.now.own
-        program.now.arguments variables.now (own_values rule.now.entry.parameters arguments.now)) (given [])))) }
+        program.now.arguments variables.now (own_values rule.now.entry.parameters arguments.now))
+        (source_of choices.old)))) }
     ensures valued { OnOk result (length values.new.items ≡ length variables.now) }
     ensures kept { length values.old.items ≡ length variables.now → length values.new.items ≡ length variables.now }
 {
     let own = own_values(alloc, &rule.entry, arguments)?;
-    pass_own(alloc, program, rule, &own, variables, values)
+    pass_own(alloc, program, rule, &own, variables, values, choices)
 }
 
 /// The same, if the entry's own parameters have these values: the entry's condition is tested, then the guard, and then
@@ -584,22 +600,23 @@ fn pass_own(
     own: &[Value],
     variables: &[Value],
     values: &mut Vec<Value>,
+    choices: &mut Choices,
 ) -> Result<(), StepFault>
     requires resolved { IsResolvedRule (declared_names program.now.automaton) rule.now }
     requires valued { length variables.now ≡ length program.now.automaton.variables }
     requires own { length rule.now.own ≡ length own.now }
-    ensures after { Answers StepFault.Memory (λ _. values.new.items) result
+    ensures after { Answers StepFault.Memory (λ _. spec.taken values.new.items (source_of choices.new)) result
         (and_then (spec.guard_answer rule.now.entry.condition
         (environment_at entry_condition (declared_names program.now.automaton) rule.now.own
         program.now.arguments [] own.now))
         (λ _. spec.transition_answer (length variables.now) rule.now.transition
         (left (environment_at guard_or_effect (declared_names program.now.automaton) rule.now.own
-        program.now.arguments variables.now own.now) (given [])))) }
+        program.now.arguments variables.now own.now) (source_of choices.old)))) }
     ensures valued { OnOk result (length values.new.items ≡ length variables.now) }
     ensures kept { length values.old.items ≡ length variables.now → length values.new.items ≡ length variables.now }
 {
     pass_condition(alloc, program, rule, own)?;
-    pass_step(alloc, program, rule, own, variables, values)
+    pass_step(alloc, program, rule, own, variables, values, choices)
 }
 
 /// Passes if the condition of a rule's entry is true or missing; else `NotEnabled` (40). It reads no state variable.
@@ -663,20 +680,21 @@ fn pass_step(
     own: &[Value],
     variables: &[Value],
     values: &mut Vec<Value>,
+    choices: &mut Choices,
 ) -> Result<(), StepFault>
     requires resolved { IsResolvedRule (declared_names program.now.automaton) rule.now }
     requires valued { length variables.now ≡ length program.now.automaton.variables }
     requires own { length rule.now.own ≡ length own.now }
-    ensures after { Answers StepFault.Memory (λ _. values.new.items) result
+    ensures after { Answers StepFault.Memory (λ _. spec.taken values.new.items (source_of choices.new)) result
         (spec.transition_answer (length variables.now) rule.now.transition
         (left (environment_at guard_or_effect (declared_names program.now.automaton) rule.now.own
-        program.now.arguments variables.now own.now) (given []))) }
+        program.now.arguments variables.now own.now) (source_of choices.old))) }
     ensures valued { OnOk result (length values.new.items ≡ length variables.now) }
     ensures kept { length values.old.items ≡ length variables.now → length values.new.items ≡ length variables.now }
 {
     let view = step_view(program, rule, own, variables);
     pass_guard(alloc, &rule.transition.pre, &view, variables)?;
-    take_effect(alloc, rule, &view, variables, values)
+    take_effect(alloc, rule, &view, variables, values, choices)
 }
 
 /// What the guard and the effect of a rule see, if the entry's own parameters have these values: the values of the
@@ -714,7 +732,7 @@ fn step_view<'a>(
 }
 
 /// Puts the values of the state variables after a rule's effect into a list, in place of what is there. The effect is
-/// performed on a copy of them. No value is given to its choices.
+/// performed on a copy of them.
 #[inline(always)]
 #[tactic(auto, using(crate::proofs::Arguments::effect_answer_view))]
 fn take_effect(
@@ -723,19 +741,20 @@ fn take_effect(
     view: &View,
     variables: &[Value],
     values: &mut Vec<Value>,
+    choices: &mut Choices,
 ) -> Result<(), StepFault>
     requires resolved { AreResolved rule.now.transition.effect (own_names view.now (length variables.now))
         (names_in_view view.now) }
     requires named { IsNamed view.now variables.now }
     requires front { view.now.front.now ≡ [] }
-    ensures after { Answers StepFault.Memory (λ _. values.new.items) result (spec.effect_answer (length variables.now)
-        (answer_by rule.now.transition.effect (left (environment_of view.now variables.now) (given [])))) }
+    ensures after { Answers StepFault.Memory (λ _. spec.taken values.new.items (source_of choices.new)) result
+        (spec.effect_answer (length variables.now) (answer_by rule.now.transition.effect
+        (left (environment_of view.now variables.now) (source_of choices.old)))) }
     ensures valued { OnOk result (length values.new.items ≡ length variables.now) }
     ensures kept { length values.old.items ≡ length variables.now → length values.new.items ≡ length variables.now }
 {
     copy_values(alloc, variables, values)?;
-    let mut choices = Choices::Given(&[]);
-    match perform(alloc, &rule.transition.effect, view, values, &mut choices) {
+    match perform(alloc, &rule.transition.effect, view, values, choices) {
         Ok(()) => Ok(()),
         Err(fault) => Err(step_fault(fault)),
     }

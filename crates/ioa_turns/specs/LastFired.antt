@@ -1,6 +1,5 @@
 -- The action that a node keeps of its last firing (form).
 use Rattle.std.specs.Prelude.{◌≡◌, ⊤, ℕ, Option, Some, None}
-use Rattle.std.specs.Arc.{arc_value}
 use Rattle.std.proofs.Props.{props}
 use Rattle.ioa_actions.specs.ActionParts.{action_name, action_arguments}
 use Rattle.ioa_actions.specs.contracts.action.Action as action
@@ -10,9 +9,9 @@ use Rattle.ioa_system.specs.Parts.{Parts}
 use Rattle.ioa_turns.specs.Fired.{action_fired}
 use Rattle.ioa_turns.specs.declared.progress.LastFired.{LastFired}
 
--- an action and the number of its rule, as the code keeps them (view)
+-- an action and the number of its rule, as the code keeps them in an entry (view)
 abbrev pub last_of : LastFired → ℕ × Action
-last_of l = (l.rule, arc_value l.action)
+last_of l = (l.rule, l.entry.action)
 
 -- an action, if one is kept, is what its name and its arguments give at a node with this program, and is kept with the
 -- number of its rule

@@ -1,7 +1,6 @@
 //! The action that a node fires.
 
 ghost use Rattle.std.specs.Prelude.{◌≡◌, ◌∷◌, [], IfOk, IfSome};
-ghost use Rattle.std.specs.Arc.{arc_value};
 ghost use Rattle.std.specs.Option.{option_copied};
 ghost use Rattle.ioa_values.specs.Data.{number};
 ghost use Rattle.ioa_values.specs.DataOrder.{same};
@@ -17,8 +16,8 @@ use crate::progress::{LastFired, Progress};
 use ioa_actions::{Action, are_same};
 use ioa_system::{Program, Rule};
 use ioa_terms::{Callee, Firing, Kind, Shape, Value};
+use ioa_transitions::Entry;
 use std::alloc::{AllocError, Global};
-use std::sync::Arc;
 
 /// The action that a firing with these arguments gives at a node with this program: a receive or a stimulus if its rule
 /// is an input, and else a send or a local action.
@@ -50,41 +49,41 @@ fn is_input(rule: Option<&Rule>) -> bool
 }
 
 impl Progress<'_> {
-    /// The action of a firing at which the node stands, with the arguments that its turn found. If it is the one that
-    /// the node fired last, that gets one more owner, and nothing is built.
+    /// The entry of a firing at which the node stands, with the arguments that its turn found. If
+    /// it is the one that the node fired last, that gets one more owner, and nothing is built.
     #[inline(always)]
     pub fn action_fired(
         &mut self,
         alloc: Global,
         firing: &Firing<usize, Callee, Shape>,
-    ) -> Result<Arc<Action>, AllocError>
+    ) -> Result<Entry, AllocError>
         requires { IsAtFiring (firing_of firing.now) (progress_of self.old).todo }
-        ensures action { IfOk result (λ a. arc_value a ≡ spec.action_fired (progress_of self.old).program
+        ensures action { IfOk result (λ e. e.action ≡ spec.action_fired (progress_of self.old).program
             (firing_of firing.now).action (arguments_in self.old)) }
         ensures unchanged { progress_of self.new ≡ progress_of self.old }
         ensures kept { kept_in self.new ≡ kept_in self.old }
     {
         match self.last_fired(firing, self.control.arguments()) {
-            Some(action) => Arc::try_clone(action),
+            Some(entry) => entry.try_clone(),
             None => self.fire_anew(alloc, firing),
         }
     }
 
-    /// The action that the node fired last, if it is of the firing's rule and has these arguments.
+    /// The entry that the node fired last, if it is of the firing's rule and has these arguments.
     #[inline(always)]
     fn last_fired(
         &self,
         firing: &Firing<usize, Callee, Shape>,
         arguments: &[Value],
-    ) -> Option<&Arc<Action>>
+    ) -> Option<&Entry>
         requires { IsNumberOf self.now.program.now.automaton.rules firing.now.action firing.now.rule }
         ensures { IfSome result
-            (λ a. arc_value a.now ≡ spec.action_fired self.now.program.now firing.now.action arguments.now) }
+            (λ e. e.now.action ≡ spec.action_fired self.now.program.now firing.now.action arguments.now) }
     {
         match &self.last {
             Some(last) => {
-                if last.rule == firing.rule && has_arguments(&last.action, arguments) {
-                    Some(&last.action)
+                if last.rule == firing.rule && has_arguments(last.entry.action(), arguments) {
+                    Some(&last.entry)
                 } else {
                     None
                 }
@@ -93,27 +92,26 @@ impl Progress<'_> {
         }
     }
 
-    /// The same action, which is built, and which the node keeps too.
+    /// The same entry, which is built, and which the node keeps too.
     #[inline(never)]
     fn fire_anew(
         &mut self,
         alloc: Global,
         firing: &Firing<usize, Callee, Shape>,
-    ) -> Result<Arc<Action>, AllocError>
+    ) -> Result<Entry, AllocError>
         requires { IsNumberOf self.old.program.now.automaton.rules firing.now.action firing.now.rule }
         ensures action { IfOk result
-            (λ a. arc_value a ≡ spec.action_fired self.old.program.now firing.now.action (arguments_in self.old)) }
+            (λ e. e.action ≡ spec.action_fired self.old.program.now firing.now.action (arguments_in self.old)) }
         ensures unchanged { progress_of self.new ≡ progress_of self.old }
         ensures kept { kept_in self.new ≡ kept_in self.old }
     {
-        let built = action_of(alloc, self.program, firing, self.control.arguments())?;
-        let action = Arc::new(alloc, built)?;
-        let kept = Arc::try_clone(&action)?;
+        let action = action_of(alloc, self.program, firing, self.control.arguments())?;
+        let entry = Entry::of(alloc, action)?;
         self.last = Some(LastFired {
             rule: firing.rule,
-            action: kept,
+            entry: entry.try_clone()?,
         });
-        Ok(action)
+        Ok(entry)
     }
 }
 

@@ -8,21 +8,20 @@ ghost use Rattle.ioa_turns.specs.NumberedProps.{AreNumbered-prop};
 ghost use Rattle.ioa_turns.specs.Ready.{IsReady};
 ghost use Rattle.ioa_turns.specs.ResolvedProps.{AreAllResolved-prop};
 
-use ioa_actions::Action;
 use ioa_record::Ending;
 use ioa_schedules::Control;
 use ioa_system::Program;
-use std::sync::Arc;
+use ioa_transitions::Entry;
 
-/// An action that a node has fired, and the number of its rule.
+/// The entry of an action that a node has fired, and the number of its rule.
 #[derive(Drop)]
 pub(crate) struct LastFired {
     pub rule: usize,
-    pub action: Arc<Action>,
+    pub entry: Entry,
 }
 
 /// How far a node has come: where its block stands, how many attempts the node has left, and how it ended, if it did.
-/// The action of the last firing is kept, so that one which is fired again is not built again.
+/// The entry of the last firing is kept, so that one which is fired again is not built again.
 #[derive(Drop)]
 pub struct Progress<'a> {
     pub(crate) program: &'a Program,

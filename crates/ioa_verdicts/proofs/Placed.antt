@@ -15,9 +15,9 @@ use Rattle.ioa_system.specs.InView.{variable_names}
 use Rattle.ioa_system.specs.Invariants.{InvariantParts}
 use Rattle.ioa_system.specs.Parts.{Parts}
 use Rattle.ioa_transitions.specs.Entries.{PlainEntry}
-use Rattle.ioa_transitions.specs.NodeAnswers.{node_answer}
+use Rattle.ioa_transitions.specs.NodeAnswers.{redo_answer}
 use Rattle.ioa_transitions.specs.NodeState.{NodeState}
-use Rattle.ioa_transitions.proofs.NodeSteps.{program-node_answer}
+use Rattle.ioa_transitions.proofs.NodeSteps.{program-redo_answer}
 use Rattle.ioa_channels.specs.Queues.{QueueState, queue_answer}
 use Rattle.ioa_compose.specs.declared.configuration.Conf.{Conf}
 use Rattle.ioa_compose.specs.declared.configuration.Conf.TheVariants.{Node, Queue}
@@ -94,12 +94,12 @@ places_there places vs cs i v are at = rw (are, slice_get-map (λ u. places_of u
 -- a component's step moves no variable
 position-conf_answer : (x : List ℕ) (entry : PlainEntry) (c d : Conf) → conf_answer entry c ≡ Ok d → variable_position x (Some d) ≡ variable_position x (Some c)
 unfolding conf_answer
-position-conf_answer x entry (Node c) d h = by_answer (node_answer c entry.action) refl h
+position-conf_answer x entry (Node c) d h = by_answer (redo_answer c entry) refl h
   where
-    by_answer : (r : Result NodeState StepFault) → node_answer c entry.action ≡ r → and_then r (λ s. Ok (Node s)) ≡ Ok d → variable_position x (Some d) ≡ variable_position x (Some (Node c))
+    by_answer : (r : Result NodeState StepFault) → redo_answer c entry ≡ r → and_then r (λ s. Ok (Node s)) ≡ Ok d → variable_position x (Some d) ≡ variable_position x (Some (Node c))
     by_answer (Ok s) e h =
         let same_state : Node s ≡ d = cc in
-        rw (← same_state) (ap (λ (p : Parts). slot_in (called.Word x) (map called.Word (variable_names p.automaton.variables))) (program-node_answer c entry.action s e))
+        rw (← same_state) (ap (λ (p : Parts). slot_in (called.Word x) (map called.Word (variable_names p.automaton.variables))) (program-redo_answer c entry s e))
     by_answer (Err f) e h = absurd (cc)
 position-conf_answer x entry (Queue q) d h = by_answer (queue_answer q entry.action) h
   where

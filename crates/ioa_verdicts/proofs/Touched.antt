@@ -19,7 +19,7 @@ use Rattle.ioa_compose.specs.Composition.{component_of, component_names, find_co
 use Rattle.ioa_compose.specs.JointStep.{IsJointStep, HasAnswer, TakesStep}
 use Rattle.ioa_compose.specs.Participants.{participants_of}
 use Rattle.ioa_compose.specs.Readings.{queue_messages, reading, readings, variable_value}
-use Rattle.ioa_compose.proofs.Components.{component_of-find_conf, takes_part-is}
+use Rattle.ioa_compose.proofs.Components.{name_found, takes_part-is}
 use Rattle.ioa_compose.proofs.JointSteps.{find_conf-joint_other, joint_answer-is}
 use Rattle.ioa_verdicts.specs.Readers.{is_among, is_reader, noted_at, noted_of, reads_of, readers_from}
 use Rattle.ioa_verdicts.specs.Verdicts.{answer_by, answer_in}
@@ -77,7 +77,7 @@ noted_of-found c vs cs d h = by_slot (position_from (λ l. same_component c l) 0
     by_slot None e = let nothing : find_conf c cs ≡ None = found_nowhere c cs e in absurd (cc)
     by_slot (Some m) e =
         let there : slice_get cs m ≡ Some d = found_at c cs m e ∙ h in
-        let named : component_of d ≡ c = component_of-find_conf c cs d h in
+        let named : component_of d ≡ c = name_found c cs d h in
         rw (slice_get-map (λ k. readers_from k 0 vs) (component_names cs) m, slice_get-map component_of cs m, there, named) refl
 
 -- an invariant whose number is noted of no component that is there reads of none

@@ -3,14 +3,13 @@
 use super::BookRows;
 use crate::answers::{action_text, committed_text, refused_text};
 use crate::reading::{action_of, count_of};
-use ioa_actions::{Action, StepFault};
+use ioa_actions::StepFault;
 use ioa_book::{Book, Committed, Proposal, Refused};
 use ioa_rawlog::Spare;
 use ioa_rows::CommandFault;
 use ioa_sharing::Origin;
 use ioa_transitions::Entry;
 use std::alloc::{AllocError, Global};
-use std::sync::Arc;
 use std::sync::ledger::Ledger;
 
 impl<O: Origin, L: Ledger> BookRows<O, L> {
@@ -25,8 +24,9 @@ impl<O: Origin, L: Ledger> BookRows<O, L> {
         match words {
             [look, rest @ ..] => {
                 let look = self.look_at(count_of(look)?)?;
-                let action = lent(self.alloc, action_of(self.alloc, self.constants(), rest)?)?;
-                Ok(look.propose(self.alloc, &action))
+                let action = action_of(self.alloc, self.constants(), rest)?;
+                let fired = Entry::of(self.alloc, action)?;
+                Ok(look.propose(self.alloc, &fired))
             }
             _ => Err(CommandFault::Bad("a look and an action are wanted")),
         }
@@ -80,11 +80,6 @@ impl<O: Origin, L: Ledger> BookRows<O, L> {
             (_, None) => Err(CommandFault::Bad("there is no such proposal")),
         }
     }
-}
-
-/// The same action, so that it can be lent.
-fn lent(alloc: Global, action: Action) -> Result<Arc<Action>, AllocError> {
-    Ok(Arc::new(alloc, action)?)
 }
 
 /// Commits the proposal in a place, which is then empty. One that is refused stays in its place.

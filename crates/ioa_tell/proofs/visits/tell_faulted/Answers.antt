@@ -1,5 +1,4 @@
 use Rattle.std.proofs.Common.{ap, sym, ◌∙◌, subst}
-use Rattle.std.specs.Arc.{arc_value}
 use Rattle.ioa_actions.specs.ActionParts.{node_of}
 use Rattle.ioa_actions.specs.declared.component.Component.TheVariants.{Node}
 use Rattle.ioa_book.specs.Looks.{PlainSnapshot}
@@ -17,7 +16,7 @@ returns g c =
     let count = c.length.ensures ∙ ap (λ (s : PlainSnapshot). s.length) c.requires.fresh in
     let found = c.args.found.now in
     let book = c.args.book.now in
-    let action = arc_value c.args.action.now in
+    let action = c.args.action.now in
     let place = place_of found.place in
     let met = faulted_in book action c.args.look.now place (fault_found found.fault) c.requires.fresh c.requires.own c.requires.found in
     let lent = subst (λ (f : PlainFault). IsFaulted (find_conf (Node (node_of action)) (states_held book)) action place f) (sym c.told.ensures) met in
