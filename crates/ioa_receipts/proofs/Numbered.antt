@@ -1,10 +1,10 @@
 -- The entries of a log with their indices cover it.
 use Rattle.std.proofs.Common.{◌≡◌, ◌≢◌, ◌<◌, ◌+◌, ℕ, suc, zero, List, [], ◌∷◌, ◌++◌, Some, length, refl, sym, subst, ◌∙◌, ap, arith, append_assoc}
 use Rattle.std.specs.List.{AllByRecursion, slice_get}
-use Rattle.std.proofs.lemmas.List.{length_push}
+use Rattle.std.proofs.lemmas.List.{append-nil, length_push}
 use Rattle.ioa_transitions.specs.Entries.{PlainEntry}
-use Rattle.ioa_receipts.specs.Receipts.{receipt}
-use Rattle.ioa_receipts.specs.Covers.{CoversOnce, IsReceiptOf, count_at, numbered}
+use Rattle.ioa_receipts.specs.Receipts.{PlainReceipts, receipt}
+use Rattle.ioa_receipts.specs.Covers.{CoversOnce, IsReceiptOf, all_receipts, count_at, numbered}
 use Rattle.ioa_receipts.proofs.Filling.{count_at_same, count_at_other}
 
 -- what stands behind the first entries
@@ -48,3 +48,9 @@ numbered_covers log =
       entries = numbered_entries [] log 0 refl;
       once = λ k within. numbered_once 0 k k log within (omega arith);
     }
+
+-- and so do they if one worker has them
+pub one_covers : (log : List PlainEntry) (w : PlainReceipts) (ws : List PlainReceipts) → length ws ≡ 0 →
+    w.all ≡ numbered 0 log → CoversOnce log (all_receipts (w ∷ ws))
+one_covers log w [] none same = subst (CoversOnce log) (sym same ∙ sym (append-nil w.all)) (numbered_covers log)
+one_covers log w (v ∷ ws) none same = absurd (omega arith)

@@ -4,9 +4,10 @@ ghost use Rattle.std.specs.Prelude.{◌≡◌, ◌↔◌, IfOk, IsTrue, true, []
 ghost use Rattle.ioa_terms.specs.Choices.{made_values, source_of};
 ghost use Rattle.ioa_transitions.specs.Entries.{entry, entry_of};
 ghost use Rattle.ioa_transitions.specs.SameEntries.{same_entry};
+ghost use Rattle.ioa_actions.specs.Actions.{same_action, same_node_action};
 ghost use Rattle.ioa_actions.specs.ValuesOrder.{all_same};
 
-use ioa_actions::{Action, are_same};
+use ioa_actions::{Action, NodeAction, are_same};
 use ioa_terms::Choices;
 use ioa_values::Value;
 use std::alloc::{AllocError, Global};
@@ -119,7 +120,7 @@ impl Entry {
     fn is_same(&self, other: &Self) -> bool
         ensures { result ≡ same_entry self.now other.now }
     {
-        self.action().equals(other.action()) && self.has_chosen_as(other)
+        is_same_action(self.action(), other.action()) && self.has_chosen_as(other)
     }
 
     /// Whether two entries chose the same values. Mostly neither chose any.
@@ -140,6 +141,27 @@ impl Entry {
         let step = Arc::try_clone(&self.step)?;
         Ok(Entry { step })
     }
+}
+
+/// Whether two actions are the same. Most are local, and those are compared here, with no call.
+#[inline(always)]
+fn is_same_action(action: &Action, other: &Action) -> bool
+    ensures { result ≡ same_action action.now other.now }
+{
+    match (action, other) {
+        (Action::Local(action), Action::Local(other)) => is_same_local(action, other),
+        _ => action.equals(other),
+    }
+}
+
+/// Whether two local actions are the same.
+#[inline(always)]
+fn is_same_local(action: &NodeAction, other: &NodeAction) -> bool
+    ensures { result ≡ same_node_action action.now other.now }
+{
+    action.node == other.node
+        && action.name == other.name
+        && are_same(action.arguments.as_slice(), other.arguments.as_slice())
 }
 
 /// Whether no value was yielded.
