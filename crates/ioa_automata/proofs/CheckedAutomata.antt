@@ -143,11 +143,11 @@ module _ (t : PlainTextTypes) (alone : AreWords t.constants) (ps : List CheckedD
       ap (λ (ns : NameShapes). map (λ n. n.0) (take (length ws) ns)) whole ∙ ap (λ (ns : NameShapes). map (λ n. n.0) ns) (first_variables ws behind) ∙ named_variables ws
 
   -- an effect
-  effect_resolved : (own : List CheckedParameter) (us : List SourceStatement) (cs : List CheckedStatement) → AllZip (IsStatementOf (effect_site (take (length vs) (names_at guard_or_effect t.constants ps vs own)) (names_at guard_or_effect t.constants ps vs own))) us cs → AreResolved cs (map Word (variable_names vs)) (view.names_at guard_or_effect these (own_names own))
+  effect_resolved : (own : List CheckedParameter) (us : List SourceStatement) (cs : List CheckedStatement) → AllZip (IsStatementOf (effect_site t.types (take (length vs) (names_at guard_or_effect t.constants ps vs own)) (names_at guard_or_effect t.constants ps vs own))) us cs → AreResolved cs (map Word (variable_names vs)) (view.names_at guard_or_effect these (own_names own))
   effect_resolved own us cs h =
       let names = names_at guard_or_effect t.constants ps vs own in
       let whole = append_assoc (variable_shapes vs) (parameter_shapes ps ++ own_shapes own) t.constants in
-      statements_resolved (effect_site (take (length vs) names) names) (map Word (variable_names vs)) (view.names_at guard_or_effect these (own_names own)) (assigned_names vs names ((parameter_shapes ps ++ own_shapes own) ++ t.constants) whole) (read_names guard_or_effect own) us cs h
+      statements_resolved (effect_site t.types (take (length vs) names) names) (map Word (variable_names vs)) (view.names_at guard_or_effect these (own_names own)) (assigned_names vs names ((parameter_shapes ps ++ own_shapes own) ++ t.constants) whole) (read_names guard_or_effect own) us cs h
 
   rule_resolved : (ts : List SourceTransition) (e : SourceEntry) (r : PlainRule) → IsRuleOf t ps vs ts e r → IsResolvedRule these r
   rule_resolved ts e r h =

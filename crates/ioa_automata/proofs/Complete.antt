@@ -146,15 +146,15 @@ module _ (types : TypeTable) where
     parameters_found (p ∷ ps) (c ∷ cs) [] h = absurd h
     parameters_found (p ∷ ps) (c ∷ cs) (s ∷ ss) h = rw (← parameter_found p c s h.0, ← parameters_found ps cs ss h.1) refl
 
-    transition_found : (variables : ℕ) (t : SourceTransition) (c : CheckedTransition) → IsTransitionOf names variables t c → result_is c ≡ transition_at names variables t
+    transition_found : (variables : ℕ) (t : SourceTransition) (c : CheckedTransition) → IsTransitionOf types names variables t c → result_is c ≡ transition_at types names variables t
     unfolding transition_at
     transition_found variables t c h =
         rw (← all_ok_all (own_term names) t.arguments c.arguments (zip_weaker (λ u d. (s : PlainShape) × IsOwnTermOf names u d s) (λ u d. result_is d ≡ own_term names u) own_term_found t.arguments c.arguments h.arguments), ← condition_found t.pre c.pre h.pre, ← effect_found t.effect c.effect h.effect) (ap result_is (rebuilt t c h))
       where
-        effect_found : (ss : List SourceStatement) (cs : List CheckedStatement) → AllZip (IsStatementOf (effect_site (take variables names) names)) ss cs → results_are cs ≡ all_ok (statement_sortings (effect_site (take variables names) names) (statements_of ss))
-        effect_found ss cs h = statements_found (effect_site (take variables names) names) nothing_differs ss cs h
+        effect_found : (ss : List SourceStatement) (cs : List CheckedStatement) → AllZip (IsStatementOf (effect_site types (take variables names) names)) ss cs → results_are cs ≡ all_ok (statement_sortings (effect_site types (take variables names) names) (statements_of ss))
+        effect_found ss cs h = statements_found (effect_site types (take variables names) names) nothing_differs ss cs h
 
-        rebuilt : (t : SourceTransition) (c : CheckedTransition) → IsTransitionOf names variables t c → c ≡ record { kind = t.kind; name = t.name; arguments = c.arguments; pre = c.pre; effect = c.effect }
+        rebuilt : (t : SourceTransition) (c : CheckedTransition) → IsTransitionOf types names variables t c → c ≡ record { kind = t.kind; name = t.name; arguments = c.arguments; pre = c.pre; effect = c.effect }
         rebuilt t c h = λ i. record { kind = h.kind i; name = h.name i; arguments = c.arguments; pre = c.pre; effect = c.effect }
 
 module _ (t : PlainTextTypes) (ps : List CheckedDeclared) (vs : List CheckedVariable) where
@@ -207,7 +207,7 @@ module _ (t : PlainTextTypes) (ps : List CheckedDeclared) (vs : List CheckedVari
     rule_found e r h =
         let own = r.entry.parameters in
         let names = outer ++ (own_shapes own ++ t.constants) in
-        let transition = subst (λ ns. IsTransitionOf ns (length vs) h.written r.transition) (guard_view own) h.transition in
+        let transition = subst (λ ns. IsTransitionOf t.types ns (length vs) h.written r.transition) (guard_view own) h.transition in
         rw (← allowed_found e r h, ← parameters_found t.types (given ++ t.constants) e.parameters own r.shapes h.parameters, ← own_new e ts r h, ← entry_found ts e r h, ← message_found (entry_in r) ((named_iff (entry_in r)).1 h.message), ← transition_found t.types names (length vs) h.written r.transition transition) (ap result_is (rebuilt h))
       where
         rebuilt : IsRuleOf t ps vs ts e r → r ≡ record { entry = r.entry; shapes = r.shapes; transition = r.transition; own = own_names r.entry.parameters }

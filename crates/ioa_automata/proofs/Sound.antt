@@ -151,18 +151,18 @@ module _ (types : TypeTable) (table : IsTypeTable types) where
 
     -- transitions
     module _ (variables : ℕ) (first : AreAllDeclared (tuple_types types) (take variables names)) where
-      effect_sound : (ss : List SourceStatement) (cs : List CheckedStatement) → all_ok (statement_sortings (effect_site (take variables names) names) (statements_of ss)) ≡ results_are cs → AllZip (IsStatementOf (effect_site (take variables names) names)) ss cs
-      effect_sound ss cs h = statements_sound (tuple_types types) (effect_site (take variables names) names) (record { variables = first; names = all; rules = tt }) ss cs h
+      effect_sound : (ss : List SourceStatement) (cs : List CheckedStatement) → all_ok (statement_sortings (effect_site types (take variables names) names) (statements_of ss)) ≡ results_are cs → AllZip (IsStatementOf (effect_site types (take variables names) names)) ss cs
+      effect_sound ss cs h = statements_sound (tuple_types types) (effect_site types (take variables names) names) (record { variables = first; names = all; rules = tt }) ss cs h
 
-      pub transition_sound : (t : SourceTransition) (c : CheckedTransition) → transition_at names variables t ≡ result_is c → IsTransitionOf names variables t c
+      pub transition_sound : (t : SourceTransition) (c : CheckedTransition) → transition_at types names variables t ≡ result_is c → IsTransitionOf types names variables t c
       unfolding transition_at
       transition_sound t c h =
-          let one = first_of (own_terms names t.arguments) (λ ts. and_then (condition_at names t.pre) (λ p. and_then (all_ok (statement_sortings (effect_site (take variables names) names) (statements_of t.effect))) (λ ss. result_is (record { kind = t.kind; name = t.name; arguments = ts; pre = p; effect = ss })))) c h in
-          let two = first_of (condition_at names t.pre) (λ p. and_then (all_ok (statement_sortings (effect_site (take variables names) names) (statements_of t.effect))) (λ ss. result_is (record { kind = t.kind; name = t.name; arguments = one.0; pre = p; effect = ss }))) c one.2 in
-          let three = first_of (all_ok (statement_sortings (effect_site (take variables names) names) (statements_of t.effect))) (λ ss. result_is (record { kind = t.kind; name = t.name; arguments = one.0; pre = two.0; effect = ss })) c two.2 in
+          let one = first_of (own_terms names t.arguments) (λ ts. and_then (condition_at names t.pre) (λ p. and_then (all_ok (statement_sortings (effect_site types (take variables names) names) (statements_of t.effect))) (λ ss. result_is (record { kind = t.kind; name = t.name; arguments = ts; pre = p; effect = ss })))) c h in
+          let two = first_of (condition_at names t.pre) (λ p. and_then (all_ok (statement_sortings (effect_site types (take variables names) names) (statements_of t.effect))) (λ ss. result_is (record { kind = t.kind; name = t.name; arguments = one.0; pre = p; effect = ss }))) c one.2 in
+          let three = first_of (all_ok (statement_sortings (effect_site types (take variables names) names) (statements_of t.effect))) (λ ss. result_is (record { kind = t.kind; name = t.name; arguments = one.0; pre = two.0; effect = ss })) c two.2 in
           let made : CheckedTransition = record { kind = t.kind; name = t.name; arguments = one.0; pre = two.0; effect = three.0 } in
           let same : made ≡ c = cc in
-          subst (IsTransitionOf names variables t) same (record {
+          subst (IsTransitionOf types names variables t) same (record {
             kind = refl;
             name = refl;
             arguments = own_terms_sound t.arguments one.0 one.1;

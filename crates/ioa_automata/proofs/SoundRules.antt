@@ -214,7 +214,7 @@ module _ (t : PlainTextTypes) (text : AreTextTypes t) where
         let four = first_of (entry_at (given ++ (n ++ t.constants)) e qs) (λ x. and_then (message_at x) (rule_of s n written)) r three.2 in
         let five = first_of (message_at four.0) (rule_of s n written) r four.2 in
         let x = five.0 in
-        let six = first_of (transition_at (s.outer ++ (n ++ t.constants)) (length vs) written) (λ u. result_is (sorted_rule x u)) r five.2 in
+        let six = first_of (transition_at t.types (s.outer ++ (n ++ t.constants)) (length vs) written) (λ u. result_is (sorted_rule x u)) r five.2 in
         let made : sorted_rule x six.0 ≡ r = cc in
         let seven = first_of (where_at (given ++ (n ++ t.constants)) e.kind e.condition) (λ c. result_is (sorted_entry e qs c)) four.0 four.1 in
         let named_well = message_same four.0 x five.1 in
@@ -236,7 +236,7 @@ module _ (t : PlainTextTypes) (text : AreTextTypes t) where
             present = is.0;
             same_kind = (kind_is written.kind e.kind).0 is.2;
             same_name = is.1;
-            transition = subst (λ ns. IsTransitionOf ns (length vs) written six.0) own.step sound;
+            transition = subst (λ ns. IsTransitionOf t.types ns (length vs) written six.0) own.step sound;
             own = refl;
             condition_names = own.condition_names;
             step_names = own.step_names;

@@ -112,9 +112,12 @@ sorted_entry e ps c = record {
 unfoldable pub entry_at : NameShapes → SourceEntry → PlainSortedParameters → Result PlainSortedEntry Refusal
 entry_at names e ps = and_then (where_at names e.kind e.condition) (λ c. Ok (sorted_entry e ps c))
 
--- a transition, of whose names in view the first `variables` may be assigned
-unfoldable pub transition_at : NameShapes → (variables : ℕ) → SourceTransition → Result CheckedTransition Refusal
-transition_at names variables t = and_then (own_terms names t.arguments)
+-- a transition, of whose names in view the first `variables` may be assigned, and whose effect may choose values of
+-- these types
+unfoldable pub transition_at : TypeTable → NameShapes → (variables : ℕ) → SourceTransition
+    → Result CheckedTransition Refusal
+transition_at types names variables t = and_then (own_terms names t.arguments)
     (λ ts. and_then (condition_at names t.pre)
-    (λ p. and_then (all_ok (statement_sortings (effect_site (take variables names) names) (statements_of t.effect)))
+    (λ p. and_then
+    (all_ok (statement_sortings (effect_site types (take variables names) names) (statements_of t.effect)))
     (λ ss. Ok (record { kind = t.kind; name = t.name; arguments = ts; pre = p; effect = ss }))))

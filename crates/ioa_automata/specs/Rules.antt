@@ -112,7 +112,8 @@ pub record PlainSurroundings : Type 0 where
 
 -- the transition of a sorted entry, whose own parameters have these names
 unfoldable pub rule_of : PlainSurroundings → NameShapes → SourceTransition → PlainSortedEntry → Result PlainRule Refusal
-rule_of s own t e = and_then (transition_at (s.outer ++ (own ++ s.constants)) s.variables t) (λ u. Ok (sorted_rule e u))
+rule_of s own t e =
+    and_then (transition_at s.types (s.outer ++ (own ++ s.constants)) s.variables t) (λ u. Ok (sorted_rule e u))
 
 -- an entry with its transition
 unfoldable pub rule_at : PlainSurroundings → List SourceTransition → SourceEntry → Result PlainRule Refusal

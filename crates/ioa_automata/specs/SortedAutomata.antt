@@ -118,14 +118,15 @@ pub record IsWellNamed (e : PlainSortedEntry) : Type 0 where
   pub send : e.entry.name ≡ send_name → IsSend e
   pub receive : e.entry.name ≡ receive_name → IsReceive e
 
--- a transition, of whose names in view the first `variables` may be assigned
-pub record IsTransitionOf (names : NameShapes) (variables : ℕ) (t : SourceTransition) (c : CheckedTransition)
-    : Type 0 where
+-- a transition, of whose names in view the first `variables` may be assigned, and whose effect may choose values of
+-- these types
+pub record IsTransitionOf (types : TypeTable) (names : NameShapes) (variables : ℕ) (t : SourceTransition)
+    (c : CheckedTransition) : Type 0 where
   pub kind : c.kind ≡ t.kind
   pub name : c.name ≡ t.name
   pub arguments : AllZip (λ u d. (s : PlainShape) × IsOwnTermOf names u d s) t.arguments c.arguments
   pub pre : IsConditionOf names t.pre c.pre
-  pub effect : AllZip (IsStatementOf (effect_site (take variables names) names)) t.effect c.effect
+  pub effect : AllZip (IsStatementOf (effect_site types (take variables names) names)) t.effect c.effect
 
 -- what the terms of an automaton read at a site, with shapes: the names in view, and the text's constants behind them
 abbrev pub names_at : Site → (constants : NameShapes) → List CheckedDeclared → List CheckedVariable
@@ -148,7 +149,7 @@ pub record IsRuleOf (t : PlainTextTypes) (ps : List CheckedDeclared) (vs : List 
   pub present : Contains ts written
   pub same_kind : written.kind ≡ e.kind
   pub same_name : written.name ≡ e.name
-  pub transition : IsTransitionOf (names_at guard_or_effect t.constants ps vs r.entry.parameters) (length vs)
+  pub transition : IsTransitionOf t.types (names_at guard_or_effect t.constants ps vs r.entry.parameters) (length vs)
       written r.transition
   pub own : r.own ≡ own_names r.entry.parameters
   -- names in view differ
@@ -177,7 +178,8 @@ pub record IsScheduleOf (t : PlainTextTypes) (ps : List CheckedDeclared) (vs : L
     (rules : List PlainRule) (s : SourceSchedule) (c : CheckedSchedule) : Type 0 where
   pub variables : AllZip (IsVariableOf t.types (names_at initial_value t.constants ps vs [])) s.variables c.variables
   pub names : AreDistinct (block_names t.constants ps vs c.variables rules)
-  pub statements : AllZip (IsStatementOf (block_of (block_names t.constants ps vs c.variables rules) vs c.variables rules))
+  pub statements : AllZip
+      (IsStatementOf (block_of (block_names t.constants ps vs c.variables rules) vs c.variables rules))
       s.statements c.statements
 
 -- a transition has an entry of its name and kind

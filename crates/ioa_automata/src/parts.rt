@@ -339,36 +339,39 @@ pub(crate) fn sort_entry(
     Ok(Box::new(alloc, SortedEntry { entry, shapes })?)
 }
 
-/// The statements of an effect, which may assign the first `variables` names in view.
+/// The statements of an effect, which may assign the first `variables` names in view, and choose values of these types.
 fn sort_effect(
     alloc: Global,
+    types: &Types,
     view: &View,
     variables: usize,
     effect: &Vec<Statement<(), (), ()>>,
 ) -> Result<Vec<Statement<usize, Callee, Shape>>, Refusal>
     ensures { Answers Refusal.Memory (λ ss. map statement_of ss.items) result
-        (all_ok (statement_sortings (effect_site (take variables view.now) view.now)
+        (all_ok (statement_sortings (effect_site types.now (take variables view.now) view.now)
         (statements_of (map statement_of effect.now.items)))) }
 {
     let none = RuleTable::none(alloc);
-    let site = StatementSite::effect(view, variables, &none);
+    let site = StatementSite::effect(types, view, variables, &none);
     sort_statements(alloc, &site, effect)
 }
 
-/// A transition, of whose names in view the first `variables` may be assigned.
+/// A transition, of whose names in view the first `variables` may be assigned, and whose effect may choose values of
+/// these types.
 #[tactic(auto, unfolding(crate::specs::Parts::transition_at))]
 pub(crate) fn sort_transition(
     alloc: Global,
+    types: &Types,
     view: &View,
     variables: usize,
     transition: &Transition<(), (), ()>,
 ) -> Result<Transition<usize, Callee, Shape>, Refusal>
     ensures { Answers Refusal.Memory transition_of result
-        (spec.transition_at view.now variables (transition_of transition.now)) }
+        (spec.transition_at types.now view.now variables (transition_of transition.now)) }
 {
     let arguments = infer_terms(alloc, view, &transition.arguments)?;
     let pre = Box::new(alloc, sort_condition(alloc, view, &transition.pre)?)?;
-    let effect = sort_effect(alloc, view, variables, &transition.effect)?;
+    let effect = sort_effect(alloc, types, view, variables, &transition.effect)?;
     let name = transition.name.try_copy(alloc)?;
     Ok(Transition {
         kind: transition.kind,

@@ -252,11 +252,11 @@ fn sort_step(
     transition: &Transition<(), (), ()>,
 ) -> Result<Transition<usize, Callee, Shape>, Refusal>
     ensures { Answers Refusal.Memory transition_of result
-        (transition_at (around.now.outer.now ++ (own.now ++ around.now.constants.now)) around.now.variables
-        (transition_of transition.now)) }
+        (transition_at around.now.types.now (around.now.outer.now ++ (own.now ++ around.now.constants.now))
+        around.now.variables (transition_of transition.now)) }
 {
     let view = View::new(around.outer, own, around.constants)?;
-    sort_transition(alloc, &view, around.variables, transition)
+    sort_transition(alloc, around.types, &view, around.variables, transition)
 }
 
 /// The names of an entry's own parameters, with their own memory.

@@ -1,17 +1,21 @@
 -- Statements and blocks as they are printed.
-use Rattle.std.proofs.Common.{◌≡◌, List, [], ◌∷◌, ◌++◌, refl, append_assoc, append-nil}
+use Rattle.std.proofs.Common.{◌≡◌, ℕ, List, [], ◌∷◌, ◌++◌, refl, append_assoc, append-nil}
 use Rattle.ioa_tokens.specs.declared.token.Token.{Token}
 use Rattle.ioa_tokens.specs.declared.token.Token.TheVariants as token
 use Rattle.ioa_tokens.specs.declared.mark.Mark.TheVariants as mark
-use Rattle.ioa_source.specs.Sides.{SourceTarget as Target, SourceStatement as Statement, SourceStatements as Statements, SourceArms as Arms, SourceFiring as Firing}
+use Rattle.ioa_terms.specs.PlainSort.{PlainSort}
+use Rattle.ioa_terms.specs.PlainTerm.{choosing, choice_with}
+use Rattle.ioa_source.specs.Sides.{SourceTerm as Term, SourceTarget as Target, SourceStatement as Statement, SourceStatements as Statements, SourceArms as Arms, SourceFiring as Firing}
+use Rattle.ioa_term_reader.specs.Grammar.{bracket_limit, SpellsTerm}
 use Rattle.ioa_term_reader.specs.Spelling.{spelling}
 use Rattle.ioa_term_reader.proofs.PrintedGood.{tokens_joined}
 use Rattle.ioa_part_reader.specs.declared.statement.Context.{Context}
+use Rattle.ioa_part_reader.specs.declared.statement.Context.TheVariants.{Effect}
 use Rattle.ioa_part_reader.specs.Grammar as grammar
-use Rattle.ioa_part_reader.specs.Grammar.{SpellsTarget, SpellsFiring, SpellsStatement, SpellsArms, SpellsRest, SpellsStatements, SpellsLow, SpellsBlock}
-use Rattle.ioa_front.specs.Spelling.{target_spelling, firing_spelling, else_spelling, between_do_and_od, statement_spelling, statements_spelling, more_statements_spelling, arms_spelling, more_arms_spelling, list_spelling, block_spelling}
+use Rattle.ioa_part_reader.specs.Grammar.{SpellsSort, SpellsTarget, SpellsFiring, SpellsStatement, SpellsArms, SpellsRest, SpellsStatements, SpellsLow, SpellsBlock}
+use Rattle.ioa_front.specs.Spelling.{sort_spelling, target_spelling, firing_spelling, else_spelling, between_do_and_od, statement_spelling, statements_spelling, more_statements_spelling, arms_spelling, more_arms_spelling, list_spelling, block_spelling}
 use Rattle.ioa_front.proofs.PrintedLists.{Prints}
-use Rattle.ioa_front.proofs.PrintedDeclared.{inner_term, outer_term, call_prints, kind_again, kind_good}
+use Rattle.ioa_front.proofs.PrintedDeclared.{inner_term, outer_term, sort_prints, call_prints, kind_again, kind_good}
 
 target_prints : {p : Target} {xs ys : List Token} → SpellsTarget p xs ys → Prints SpellsTarget target_spelling p xs ys
 target_prints grammar.whole = record { again = λ zs. grammar.whole; good = λ h. ((h.0, tt), h.1) }
@@ -57,6 +61,36 @@ else_goes_on (grammar.more_statements d rest) zs = refl
 abbrev rest_spelling : Statements → List Token
 rest_spelling ss = else_spelling ss (statements_spelling ss) ++ token.Mark mark.Fi ∷ []
 
+-- a choice
+
+choosing_prints : {p : Target} {w : List ℕ} {s : PlainSort} {t u : Term} {xs ys zs us vs : List Token} →
+    SpellsTarget p xs (token.Mark mark.Assign ∷ token.Mark mark.Choose ∷ token.Word w ∷ token.Mark mark.Colon ∷ ys) → SpellsSort bracket_limit s ys (token.Mark mark.Where ∷ zs) →
+    SpellsTerm bracket_limit t zs (token.Mark mark.Yield ∷ us) → SpellsTerm bracket_limit u us vs →
+    Prints (SpellsStatement Effect) statement_spelling (choosing (choice_with p w s tt t u)) xs vs
+choosing_prints {p = p} {w = w} {s = s} {t = t} {u = u} d e f k =
+    let a = target_prints d in
+    let b = sort_prints e in
+    let i = outer_term t _ _ f in
+    let j = outer_term u _ _ k in
+    let yields = token.Mark mark.Yield ∷ spelling u in
+    let condition = token.Mark mark.Where ∷ (spelling t ++ yields) in
+    let right = token.Mark mark.Assign ∷ token.Mark mark.Choose ∷ token.Word w ∷ token.Mark mark.Colon ∷ (sort_spelling s ++ condition) in
+    record {
+      again = λ zs.
+          let behind = token.Mark mark.Yield ∷ (spelling u ++ zs) in
+          let asked = token.Mark mark.Where ∷ (spelling t ++ behind) in
+          rw (append_assoc (target_spelling p) right zs, append_assoc (sort_spelling s) condition zs, append_assoc (spelling t) yields zs)
+          (grammar.choosing (a.again (token.Mark mark.Assign ∷ token.Mark mark.Choose ∷ token.Word w ∷ token.Mark mark.Colon ∷ (sort_spelling s ++ asked))) (b.again asked) (i.again behind) (j.again zs));
+      good = λ h.
+          let g = a.good h in
+          let l = b.good g.1.1.1.1.1 in
+          let m = i.good l.1.1 in
+          let n = j.good m.1.1 in
+          let all_yields = tokens_joined (spelling t) yields m.0 (tt, n.0) in
+          let all_chosen = tokens_joined (sort_spelling s) condition l.0 (tt, all_yields) in
+          (tokens_joined (target_spelling p) right g.0 (tt, (tt, (g.1.1.1.0, (tt, all_chosen)))), n.1);
+    }
+
 mutual
   statement_prints : {c : Context} {s : Statement} {xs ys : List Token} → SpellsStatement c s xs ys → Prints (SpellsStatement c) statement_spelling s xs ys
   statement_prints (grammar.assignment {p = p} {t = t} d e) =
@@ -91,6 +125,7 @@ mutual
   statement_prints (grammar.fire_statement d) =
       let p = firing_prints d in
       record { again = λ zs. grammar.fire_statement (p.again zs); good = λ h. let g = p.good h.1 in ((tt, g.0), g.1) }
+  statement_prints (grammar.choosing d e f k) = choosing_prints d e f k
 
   arms_print : {c : Context} {arms : Arms} {xs ys : List Token} → SpellsArms c arms xs ys → Prints (SpellsArms c) arms_spelling arms xs ys
   arms_print (grammar.one_arm {t = t} {body = body} d e) =

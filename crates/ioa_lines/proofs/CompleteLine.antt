@@ -1,5 +1,7 @@
 -- A line is read as it is spelled, if its action is one of the system.
-use Rattle.std.proofs.Common.{◌≡◌, ℕ, ℤ, Bool, true, false, List, [], ◌∷◌, Option, Some, None, refl, ap}
+use Rattle.std.proofs.Common.{◌≡◌, ℕ, suc, ◌+◌, ℤ, Bool, true, false, List, [], ◌∷◌, ◌++◌, Option, Some, None, cond, refl, ap, arith}
+use Rattle.std.specs.List.{list_any}
+use Rattle.std.specs.Prelude.{drop, not, take}
 use Rattle.std.specs.Ordering.{int_eq}
 use Rattle.std.proofs.lemmas.Bool.Decides.{Decides-int_eq}
 use Rattle.ioa_tokens.specs.declared.token.Token.{Token}
@@ -17,10 +19,13 @@ use Rattle.ioa_terms.specs.SameTerms.{same_kind}
 use Rattle.ioa_terms.specs.declared.tree.Kind.TheVariants.{Input}
 use Rattle.ioa_system.specs.Parts.{PlainRule}
 use Rattle.ioa_system.specs.Systems.{SystemParts}
-use Rattle.ioa_lines.specs.Grammar.{SpellsAction, SpellsAlone, SpellsArguments, is_message_name, local, numbered, plain, received, sent, stimulus}
+use Rattle.ioa_transitions.specs.Entries.{PlainEntry}
+use Rattle.ioa_lines.specs.Grammar.{SpellsAction, SpellsAlone, SpellsArguments, SpellsChosen, chosen, is_message_name, local, nothing_chosen, numbered, plain, received, sent, stimulus}
 use Rattle.ioa_lines.specs.Lines.{IsActionOf, SpellsLine, is_input}
-use Rattle.ioa_lines.specs.Reading.{action_by, action_if_written, behind_number, line_action, named_action, node_at_end, read_arguments, read_end, rule_action, rule_at}
+use Rattle.ioa_lines.specs.Reading.{action_by, action_if_written, action_tokens, behind_number, choice_tokens, choose_place, is_choose, line_action, line_entry, named_action, node_at_end, read_arguments, read_end, rule_action, rule_at}
+use Rattle.ioa_lines.proofs.ChosenValues.{chosen_complete}
 use Rattle.ioa_lines.proofs.Ends.{either_false, message_ends, node_behind}
+use Rattle.ioa_lines.proofs.OwnTokens.{action_alone, action_own}
 use Rattle.ioa_lines.proofs.Parts.{arguments_complete, arguments_front}
 use Rattle.ioa_lines.proofs.SoundLine.{rule_named_is}
 
@@ -115,10 +120,49 @@ at_word : (s : SystemParts) (xs ys : List Token) (w : List ℕ) (a : Action) →
 unfolding line_action word bind
 at_word s xs ys w a e h = rw e h
 
-alone_complete : (s : SystemParts) (xs : List Token) (a : Action) → SpellsAlone s.names a xs → IsActionOf s a → line_action s xs ≡ Some a
-alone_complete s xs a (plain d) t = let p = shows d in at_word s xs p.behind (action_name a) a (ap behind_number p.same) (named_complete s a xs p t)
-alone_complete s xs a (numbered {xs = ys} d) t = let p = shows d in at_word s xs p.behind (action_name a) a p.same (named_complete s a ys p t)
+-- the action of its tokens alone, with a number in front or none
+action_complete : (s : SystemParts) (xs : List Token) (a : Action) → SpellsAction s.names a xs [] → IsActionOf s a → line_action s xs ≡ Some a
+action_complete s xs a d t = let p = shows d in at_word s xs p.behind (action_name a) a (ap behind_number p.same) (named_complete s a xs p t)
+
+numbered_complete : (s : SystemParts) (n : ℤ) (xs : List Token) (a : Action) → SpellsAction s.names a xs [] → IsActionOf s a → line_action s (token.Number n ∷ xs) ≡ Some a
+numbered_complete s n xs a d t = let p = shows d in at_word s (token.Number n ∷ xs) p.behind (action_name a) a p.same (named_complete s a xs p t)
+
+-- a token that is not `choose` goes to the action
+taken_too : (b : Bool) (k : ℕ) (t : Token) (xs front : List Token) → b ≡ false → take k xs ≡ front → take (cond (not b) (1 + k) 0) (t ∷ xs) ≡ t ∷ front
+taken_too true k t xs front e h = absurd cc
+taken_too false k t xs front e h = let next : 1 + k ≡ suc k = omega arith in rw next (ap (λ us. t ∷ us) h)
+
+dropped_too : (b : Bool) (k : ℕ) (t : Token) (xs rest : List Token) → b ≡ false → drop k xs ≡ rest → drop (cond (not b) (1 + k) 0) (t ∷ xs) ≡ rest
+dropped_too true k t xs rest e h = absurd cc
+dropped_too false k t xs rest e h = let next : 1 + k ≡ suc k = omega arith in rw next h
+
+-- the line is cut where its action ends
+cut_at_end : (front ys : List Token) → list_any is_choose front ≡ false → choose_place ys ≡ 0 → (action_tokens (front ++ ys) ≡ front) × (choice_tokens (front ++ ys) ≡ ys)
+cut_at_end [] ys free first = (rw first refl, rw first refl)
+cut_at_end (t ∷ front) ys free first =
+    let p = either_false (is_choose t) (list_any is_choose front) free in
+    let r = cut_at_end front ys p.1 first in
+    let place = choose_place (front ++ ys) in
+    (taken_too (is_choose t) place t (front ++ ys) front p.0 r.0, dropped_too (is_choose t) place t (front ++ ys) ys p.0 r.1)
+
+chosen_first : {names : List (List ℕ)} {vs : List Data} {ys : List Token} → SpellsChosen names vs ys → choose_place ys ≡ 0
+chosen_first nothing_chosen = refl
+chosen_first (chosen simple d) = refl
+
+at_parts : (s : SystemParts) (front ys : List Token) (e : PlainEntry) → list_any is_choose front ≡ false → line_action s front ≡ Some e.action → SpellsChosen s.names e.chosen ys → line_entry s (front ++ ys) ≡ Some e
+unfolding line_entry bind
+at_parts s front ys e free action c =
+    let p = cut_at_end front ys free (chosen_first c) in
+    rw (p.0, p.1, action, chosen_complete s.names c) refl
+
+alone_complete : (s : SystemParts) (xs : List Token) (e : PlainEntry) → SpellsAlone s.names e xs → IsActionOf s e.action → line_entry s xs ≡ Some e
+alone_complete s xs e (plain {ys = ys} d c) t =
+    let f = action_own d in
+    rw f.same (at_parts s f.front ys e f.free (action_complete s f.front e.action (action_alone f) t) c)
+alone_complete s xs e (numbered {n = n} {ys = ys} d c) t =
+    let f = action_own d in
+    rw f.same (at_parts s (token.Number n ∷ f.front) ys e f.free (numbered_complete s n f.front e.action (action_alone f) t) c)
 
 -- a line is read as it is spelled, if its action is one of the system
-pub line_complete : (s : SystemParts) (xs : List Token) (a : Action) → SpellsLine s xs a → line_action s xs ≡ Some a
-line_complete s xs a h = alone_complete s xs a h.spelled h.taken
+pub line_complete : (s : SystemParts) (xs : List Token) (e : PlainEntry) → SpellsLine s xs e → line_entry s xs ≡ Some e
+line_complete s xs e h = alone_complete s xs e h.spelled h.taken

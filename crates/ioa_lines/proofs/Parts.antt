@@ -6,7 +6,7 @@ use Rattle.std.proofs.lemmas.Option.{some_pair_parts}
 use Rattle.ioa_tokens.specs.declared.token.Token.{Token}
 use Rattle.ioa_tokens.specs.declared.token.Token.TheVariants as token
 use Rattle.ioa_tokens.specs.declared.mark.Mark.TheVariants as mark
-use Rattle.ioa_cursor.specs.Reading.{bind, expect, skip}
+use Rattle.ioa_cursor.specs.Reading.{bind, end, expect, skip}
 use Rattle.ioa_cursor.proofs.Steps.{bind_cases, expected_taken, read_next}
 use Rattle.ioa_values.specs.Data.{Data, Items, items_of, list_of, no_items}
 use Rattle.ioa_values.proofs.ItemLists.{list_of_items}
@@ -18,6 +18,12 @@ use Rattle.ioa_value_reader.proofs.Shorter.{Front, items_front}
 use Rattle.ioa_value_reader.proofs.Sound.{Spelled, value_sound}
 use Rattle.ioa_lines.specs.Grammar.{SpellsArguments, listed, none}
 use Rattle.ioa_lines.specs.Reading.{read_arguments}
+
+-- no token is left at the end
+pub ended : (xs : List Token) (e : Unit {0} × List Token) → end xs ≡ Some e → xs ≡ []
+unfolding end
+ended [] e h = refl
+ended (x ∷ xs) e h = absurd cc
 
 -- what is found is what is wanted
 pub settled : {A : Type 0} (P : A → Type 0) {x y : A} → Some x ≡ Some y → P x → P y

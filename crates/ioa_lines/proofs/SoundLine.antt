@@ -1,12 +1,13 @@
 -- What is read of a line is spelled, and is an action of the system.
-use Rattle.std.proofs.Common.{◌≡◌, ℕ, ℤ, Bool, true, false, List, [], ◌∷◌, Option, Some, None, if◌then◌else◌, refl, sym, ap, ◌∙◌}
+use Rattle.std.proofs.Common.{◌≡◌, ℕ, ℤ, Bool, true, false, List, [], ◌∷◌, ◌++◌, Option, Some, None, if◌then◌else◌, refl, sym, ap, subst, ◌∙◌}
 use Rattle.std.specs.Prelude.{not}
 use Rattle.std.proofs.lemmas.Bool.Decides.{Decides-int_eq}
+use Rattle.std.proofs.lemmas.List.{take-append-drop}
 use Rattle.std.proofs.lemmas.Slice.Eq.{bytes_eq-Decides}
 use Rattle.ioa_tokens.specs.declared.token.Token.{Token}
 use Rattle.ioa_tokens.specs.declared.token.Token.TheVariants as token
 use Rattle.ioa_tokens.specs.declared.mark.Mark.TheVariants as mark
-use Rattle.ioa_cursor.specs.Reading.{choose, end}
+use Rattle.ioa_cursor.specs.Reading.{choose}
 use Rattle.ioa_cursor.proofs.Steps.{bind_cases, choose_cases, expected_taken, number_taken, word_taken}
 use Rattle.ioa_values.specs.Data.{Data, items_of}
 use Rattle.ioa_operators.specs.Shapes.{have_shapes, shapes_of, wide_shapes_if}
@@ -19,10 +20,13 @@ use Rattle.ioa_terms.specs.SameTerms.{same_kind}
 use Rattle.ioa_terms.specs.declared.tree.Kind.TheVariants.{Input}
 use Rattle.ioa_system.specs.Parts.{PlainRule, rule_named}
 use Rattle.ioa_system.specs.Systems.{SystemParts}
-use Rattle.ioa_lines.specs.Grammar.{SpellsAction, SpellsAlone, SpellsArguments, is_message_name, local, numbered, plain, received, sent, stimulus}
-use Rattle.ioa_lines.specs.Lines.{SpellsLine, is_input}
-use Rattle.ioa_lines.specs.Reading.{action_by, behind_number, is_written, line_action, named_action, read_end, rule_action, rule_at}
-use Rattle.ioa_lines.proofs.Parts.{arguments_sound}
+use Rattle.ioa_transitions.specs.Entries.{PlainEntry}
+use Rattle.ioa_lines.specs.Grammar.{SpellsAction, SpellsAlone, SpellsArguments, SpellsChosen, is_message_name, local, numbered, plain, received, sent, stimulus}
+use Rattle.ioa_lines.specs.Lines.{IsActionOf, SpellsLine, is_input}
+use Rattle.ioa_lines.specs.Reading.{action_by, action_tokens, behind_number, choice_tokens, choose_place, is_written, line_action, line_entry, named_action, read_end, rule_action, rule_at}
+use Rattle.ioa_lines.proofs.ChosenValues.{chosen_sound}
+use Rattle.ioa_lines.proofs.OwnTokens.{action_before}
+use Rattle.ioa_lines.proofs.Parts.{arguments_sound, ended, settled}
 
 -- the action of a rule's name and arguments is one of four
 pub action_cases : (P : Action → Type 0) (input : Bool) (k : ℤ) (w : List ℕ) (vs : List Data) → ((m : Data) (i j : ℤ) → input ≡ false → P (Send m i j)) → ((m : Data) (i j : ℤ) → input ≡ true → P (Receive m i j)) →
@@ -66,11 +70,6 @@ node_kept messages input k w vs =
 abbrev IsEnd : Bool → ℤ → List Token → Type 0
 IsEnd true k xs = xs ≡ []
 IsEnd false k xs = xs ≡ token.Mark mark.AtSign ∷ token.Number k ∷ []
-
-ended : (xs : List Token) (e : Unit {0} × List Token) → end xs ≡ Some e → xs ≡ []
-unfolding end
-ended [] e h = refl
-ended (x ∷ xs) e h = absurd cc
 
 end_sound : (messages : Bool) (k : ℤ) (xs : List Token) (e : Unit {0} × List Token) → read_end messages k xs ≡ Some e → IsEnd messages k xs
 unfolding read_end choose
@@ -145,24 +144,20 @@ pub rule_named_is : (w : List ℕ) (rs : List PlainRule) (r : PlainRule) → rul
 rule_named_is w [] r e = absurd cc
 rule_named_is w (q ∷ rs) r e = named_by_test (same_word q.entry.name w) w q r (rule_named w rs) refl (rule_named_is w rs r) e
 
--- a number in front
-with_number : {names : List (List ℕ)} {a : Action} (xs ys : List Token) → behind_number xs ≡ ys → SpellsAction names a ys [] → SpellsAlone names a xs
-with_number (token.Number n ∷ xs) ys e d = numbered (rw (← e) at d)
-with_number (token.Mark m ∷ xs) ys e d = plain (rw (← e) at d)
-with_number (token.Word w ∷ xs) ys e d = plain (rw (← e) at d)
-with_number (token.LeftOut w ∷ xs) ys e d = plain (rw (← e) at d)
-with_number [] ys e d = plain (rw (← e) at d)
+-- tokens that spell an action of the system, behind the number that they may begin with
+record SpellsActionOf (s : SystemParts) (xs : List Token) (a : Action) : Type 0 where
+  spelled : SpellsAction s.names a (behind_number xs) []
+  taken : IsActionOf s a
 
--- what is read of a line is spelled, and is an action of the system
-pub line_sound : (s : SystemParts) (xs : List Token) (a : Action) → line_action s xs ≡ Some a → SpellsLine s xs a
+action_sound : (s : SystemParts) (xs : List Token) (a : Action) → line_action s xs ≡ Some a → SpellsActionOf s xs a
 unfolding line_action named_action rule_at
-line_sound s xs a h =
-    let P : Type 0 = SpellsLine s xs a in
+action_sound s xs a h =
+    let P : Type 0 = SpellsActionOf s xs a in
     bind_cases P h (λ w w_is named. bind_cases P named (λ k k_is ruled. bind_cases P ruled (λ r r_is made. bind_cases P r_is (λ p p_is q_is.
     let rule = rule_sound s.names k r w.1 a made in
     let name = rule_named_is w.0 p.automaton.rules r q_is in
     record {
-      spelled = with_number xs (token.Word w.0 ∷ w.1) (word_taken (behind_number xs) w w_is) (rw name at rule.spelled);
+      spelled = rw (word_taken (behind_number xs) w w_is) (rw name at rule.spelled);
       taken = record {
         program = p;
         placed = rw rule.node p_is;
@@ -172,3 +167,25 @@ line_sound s xs a h =
         sorted = rule.sorted;
       };
     }))))
+
+-- a number in front, and what was chosen behind
+with_number : {names : List (List ℕ)} {e : PlainEntry} (xs ys : List Token) → SpellsAction names e.action (behind_number xs) [] → SpellsChosen names e.chosen ys → SpellsAlone names e (xs ++ ys)
+with_number (token.Number n ∷ xs) ys d c = numbered (action_before ys d) c
+with_number (token.Mark m ∷ xs) ys d c = plain (action_before ys d) c
+with_number (token.Word w ∷ xs) ys d c = plain (action_before ys d) c
+with_number (token.LeftOut w ∷ xs) ys d c = plain (action_before ys d) c
+with_number [] ys d c = plain (action_before ys d) c
+
+-- what is read of a line is spelled, and its action is one of the system
+pub line_sound : (s : SystemParts) (xs : List Token) (e : PlainEntry) → line_entry s xs ≡ Some e → SpellsLine s xs e
+unfolding line_entry
+line_sound s xs e h =
+    let P : Type 0 = SpellsLine s xs e in
+    bind_cases P h (λ a a_is rest. bind_cases P rest (λ vs vs_is done.
+    let action = action_sound s (action_tokens xs) a a_is in
+    let whole : action_tokens xs ++ choice_tokens xs ≡ xs = take-append-drop (choose_place xs) xs in
+    settled (SpellsLine s xs) done
+    (record {
+      spelled = subst (SpellsAlone s.names _) whole (with_number (action_tokens xs) (choice_tokens xs) action.spelled (chosen_sound s.names (choice_tokens xs) vs vs_is));
+      taken = action.taken;
+    })))

@@ -1,4 +1,4 @@
--- Which actions a system has, and which the lines of a text spell (profile).
+-- Which actions a system has, and which entries the lines of a text spell (profile).
 use Rattle.std.specs.Prelude.{◌≡◌, ℕ, ◌+◌, Bool, true, false, ◌==◌, List, [], ◌∷◌, ◌++◌, map, length}
 use Rattle.std.specs.Prelude.{Option, Some, None, Result, Ok, Err}
 use Rattle.std.specs.List.{slice_split}
@@ -17,8 +17,9 @@ use Rattle.ioa_terms.specs.SameTerms.{same_kind}
 use Rattle.ioa_terms.specs.declared.tree.Kind.TheVariants.{Input}
 use Rattle.ioa_system.specs.Parts.{Parts, PlainRule, rule_named}
 use Rattle.ioa_system.specs.Systems.{SystemParts, program_numbered}
+use Rattle.ioa_transitions.specs.Entries.{PlainEntry}
 use Rattle.ioa_lines.specs.Grammar.{SpellsAlone}
-use Rattle.ioa_lines.specs.Reading.{line_action}
+use Rattle.ioa_lines.specs.Reading.{line_entry}
 use Rattle.ioa_lines.specs.declared.fault.LineFault.{LineFault}
 use Rattle.ioa_lines.specs.declared.fault.LineFault.TheVariants.{BadLine, Memory}
 
@@ -39,48 +40,49 @@ pub record IsActionOf (s : SystemParts) (a : Action) : Type 0 where
   pub kind : same_kind rule.entry.kind Input ≡ is_input a
   pub sorted : have_shapes (wide_shapes_if true (shapes_of rule.shapes)) (items_of (action_arguments a)) ≡ true
 
--- tokens of a line that spell an action of a system
-pub record SpellsLine (s : SystemParts) (xs : List Token) (a : Action) : Type 0 where
-  pub spelled : SpellsAlone s.names a xs
-  pub taken : IsActionOf s a
+-- tokens of a line that spell an entry by an action of a system; whether the effect may choose these values is no
+-- matter of lines
+pub record SpellsLine (s : SystemParts) (xs : List Token) (e : PlainEntry) : Type 0 where
+  pub spelled : SpellsAlone s.names e xs
+  pub taken : IsActionOf s e.action
 
 -- the tokens of located ones
 abbrev pub tokens_of : List LocatedToken → List Token
 tokens_of ts = map (λ t. t.token) ts
 
--- a line that spells an action of a system
-pub record LineSpells (s : SystemParts) (line : List ℕ) (a : Action) : Type 0 where
+-- a line that spells an entry of a system
+pub record LineSpells (s : SystemParts) (line : List ℕ) (e : PlainEntry) : Type 0 where
   pub tokens : List LocatedToken
   pub cut : line_tokens line ≡ Ok tokens
-  pub spells : SpellsLine s (tokens_of tokens) a
+  pub spells : SpellsLine s (tokens_of tokens) e
 
--- lines of which those that have tokens spell these actions, one by one
-pub data LinesSpell (s : SystemParts) : List (List ℕ) → List Action → Type 0 where
+-- lines of which those that have tokens spell these entries, one by one
+pub data LinesSpell (s : SystemParts) : List (List ℕ) → List PlainEntry → Type 0 where
   no_line : LinesSpell s [] []
-  blank : {line : List ℕ} {lines : List (List ℕ)} {actions : List Action} →
-      line_tokens line ≡ Ok [] → LinesSpell s lines actions → LinesSpell s (line ∷ lines) actions
-  action : {line : List ℕ} {lines : List (List ℕ)} {a : Action} {actions : List Action} →
-      LineSpells s line a → LinesSpell s lines actions → LinesSpell s (line ∷ lines) (a ∷ actions)
+  blank : {line : List ℕ} {lines : List (List ℕ)} {entries : List PlainEntry} →
+      line_tokens line ≡ Ok [] → LinesSpell s lines entries → LinesSpell s (line ∷ lines) entries
+  entry_line : {line : List ℕ} {lines : List (List ℕ)} {e : PlainEntry} {entries : List PlainEntry} →
+      LineSpells s line e → LinesSpell s lines entries → LinesSpell s (line ∷ lines) (e ∷ entries)
 
 -- the lines of a text: its parts between line feeds
 abbrev pub lines_of : List ℕ → List (List ℕ)
 lines_of text = slice_split (λ b. b == 10) text
 
--- a text whose lines spell these actions
-abbrev pub Lines : SystemParts → List ℕ → List Action → Type 0
-Lines s text actions = LinesSpell s (lines_of text) actions
+-- a text whose lines spell these entries
+abbrev pub Lines : SystemParts → List ℕ → List PlainEntry → Type 0
+Lines s text entries = LinesSpell s (lines_of text) entries
 
--- lines of which those in front of one spell k actions, and that one has tokens, or what is no token, and spells none
+-- lines of which those in front of one spell k entries, and that one has tokens, or what is no token, and spells none
 pub record IsBadLine (s : SystemParts) (k : ℕ) (lines : List (List ℕ)) : Type 0 where
   pub front : List (List ℕ)
   pub line : List ℕ
   pub behind : List (List ℕ)
   pub split : lines ≡ front ++ line ∷ behind
-  pub actions : List Action
-  pub spelled : LinesSpell s front actions
-  pub count : length actions ≡ k
+  pub entries : List PlainEntry
+  pub spelled : LinesSpell s front entries
+  pub count : length entries ≡ k
   pub tokens : line_tokens line ≡ Ok [] → ⊥
-  pub bad : (a : Action) → LineSpells s line a → ⊥
+  pub bad : (e : PlainEntry) → LineSpells s line e → ⊥
 
 -- lines that are still to be read, and how many with tokens came before them
 pub record LinesLeft : Type 0 where
@@ -101,66 +103,66 @@ abbrev pub bytes_behind : Option (Bor (List ℕ)) → ℕ
 bytes_behind None = 0
 bytes_behind (Some text) = length text.now + 1
 
--- the action of a line that has tokens, behind k others
-abbrev pub action_or_bad : ℕ → Option Action → Result Action LineFault
-action_or_bad k None = Err (BadLine k)
-action_or_bad k (Some a) = Ok a
+-- the entry of a line that has tokens, behind k others
+abbrev pub entry_or_bad : ℕ → Option PlainEntry → Result PlainEntry LineFault
+entry_or_bad k None = Err (BadLine k)
+entry_or_bad k (Some e) = Ok e
 
--- the action of a line behind k others that have tokens, or nothing if it has no token
-abbrev pub cut_action : SystemParts → ℕ → Result (List LocatedToken) CutFault → Result (Option Action) LineFault
-cut_action s k (Ok []) = Ok None
-cut_action s k (Ok (t ∷ ts)) = and_then (action_or_bad k (line_action s (tokens_of (t ∷ ts)))) (λ a. Ok (Some a))
-cut_action s k (Err e) = Err (BadLine k)
+-- the entry of a line behind k others that have tokens, or nothing if it has no token
+abbrev pub cut_entry : SystemParts → ℕ → Result (List LocatedToken) CutFault → Result (Option PlainEntry) LineFault
+cut_entry s k (Ok []) = Ok None
+cut_entry s k (Ok (t ∷ ts)) = and_then (entry_or_bad k (line_entry s (tokens_of (t ∷ ts)))) (λ e. Ok (Some e))
+cut_entry s k (Err f) = Err (BadLine k)
 
--- the next action, if one comes, and the lines that are left behind it; or the fault of a line
+-- the next entry, if one comes, and the lines that are left behind it; or the fault of a line
 abbrev pub Next : Type 0
-Next = Result (Option Action × LinesLeft) LineFault
+Next = Result (Option PlainEntry × LinesLeft) LineFault
 
--- the next action is that of the first line, if it has one, otherwise that of the lines behind it
-abbrev pub next_by : ℕ → List (List ℕ) → Option Action → Next → Next
+-- the next entry is that of the first line, if it has one, otherwise that of the lines behind it
+abbrev pub next_by : ℕ → List (List ℕ) → Option PlainEntry → Next → Next
 next_by k lines None later = later
-next_by k lines (Some a) later = Ok (Some a, lines_left (k + 1) lines)
+next_by k lines (Some e) later = Ok (Some e, lines_left (k + 1) lines)
 
--- the next action of lines, behind k others that have tokens
+-- the next entry of lines, behind k others that have tokens
 abbrev pub next_from : SystemParts → ℕ → List (List ℕ) → Next
 next_from s k [] = Ok (None, lines_left k [])
 next_from s k (line ∷ lines) =
-    and_then (cut_action s k (line_tokens line)) (λ o. next_by k lines o (next_from s k lines))
+    and_then (cut_entry s k (line_tokens line)) (λ o. next_by k lines o (next_from s k lines))
 
--- the next action of the lines that are left
+-- the next entry of the lines that are left
 unfoldable pub next_answer : SystemParts → LinesLeft → Next
 next_answer s left = next_from s left.count left.lines
 
--- the actions of lines, or the fault of one
-abbrev pub Actions : Type 0
-Actions = Result (List Action) LineFault
+-- the entries of lines, or the fault of one
+abbrev pub Entries : Type 0
+Entries = Result (List PlainEntry) LineFault
 
--- the actions of lines behind an action
-abbrev pub with_action : Action → Actions → Actions
-with_action a later = and_then later (λ more. Ok (a ∷ more))
+-- the entries of lines behind an entry
+abbrev pub with_entry : PlainEntry → Entries → Entries
+with_entry e later = and_then later (λ more. Ok (e ∷ more))
 
--- the actions of lines, behind k others that have tokens, or the first of these lines that spells none
-abbrev pub actions_by : ℕ → Option Action → (ℕ → Actions) → Actions
-actions_by k None later = later k
-actions_by k (Some a) later = with_action a (later (k + 1))
+-- the entries of lines, behind k others that have tokens, or the first of these lines that spells none
+abbrev pub entries_by : ℕ → Option PlainEntry → (ℕ → Entries) → Entries
+entries_by k None later = later k
+entries_by k (Some e) later = with_entry e (later (k + 1))
 
-abbrev pub actions_from : SystemParts → List (List ℕ) → ℕ → Actions
-actions_from s [] k = Ok []
-actions_from s (line ∷ lines) k =
-    and_then (cut_action s k (line_tokens line)) (λ o. actions_by k o (actions_from s lines))
+abbrev pub entries_from : SystemParts → List (List ℕ) → ℕ → Entries
+entries_from s [] k = Ok []
+entries_from s (line ∷ lines) k =
+    and_then (cut_entry s k (line_tokens line)) (λ o. entries_by k o (entries_from s lines))
 
--- the actions of the lines that are left
-unfoldable pub actions_left : SystemParts → LinesLeft → Actions
-actions_left s left = actions_from s left.lines left.count
+-- the entries of the lines that are left
+unfoldable pub entries_left : SystemParts → LinesLeft → Entries
+entries_left s left = entries_from s left.lines left.count
 
--- the actions of the lines of a text
-abbrev pub lines_answer : SystemParts → List ℕ → Actions
-lines_answer s text = actions_left s (lines_left 0 (lines_of text))
+-- the entries of the lines of a text
+abbrev pub lines_answer : SystemParts → List ℕ → Entries
+lines_answer s text = entries_left s (lines_left 0 (lines_of text))
 
--- what reading on tells of the actions of the lines that were left: the next one comes, and those of the lines that are
+-- what reading on tells of the entries of the lines that were left: the next one comes, and those of the lines that are
 -- left now behind it; or there is none; or the first line that spells none
-abbrev pub TellsActions : SystemParts → LinesLeft → Result (Option Action) LineFault → LinesLeft → Type 0
-TellsActions s old (Ok (Some a)) new = actions_left s old ≡ with_action a (actions_left s new)
-TellsActions s old (Ok None) new = actions_left s old ≡ Ok []
-TellsActions s old (Err (BadLine k)) new = actions_left s old ≡ Err (BadLine k)
-TellsActions s old (Err Memory) new = Unit {0}
+abbrev pub TellsEntries : SystemParts → LinesLeft → Result (Option PlainEntry) LineFault → LinesLeft → Type 0
+TellsEntries s old (Ok (Some e)) new = entries_left s old ≡ with_entry e (entries_left s new)
+TellsEntries s old (Ok None) new = entries_left s old ≡ Ok []
+TellsEntries s old (Err (BadLine k)) new = entries_left s old ≡ Err (BadLine k)
+TellsEntries s old (Err Memory) new = Unit {0}

@@ -1,15 +1,19 @@
--- How the reader goes through the tokens of a line (profile). The arguments are read by the shapes of their rule, which
--- is a rule of the action's node. That is written at the end, so it is looked for there first.
-use Rattle.std.specs.Prelude.{ℕ, ◌+◌, ◌-◌, ℤ, Bool, false, not, if◌then◌else◌, List, [], ◌∷◌, length, slice_get}
+-- How the reader goes through the tokens of a line (profile). They are cut at the first `choose`, which no action
+-- holds. The arguments are read by the shapes of their rule, which is a rule of the action's node. That is written at
+-- the end of the action, so it is looked for there first. For the values behind `choose` no shape is known.
+use Rattle.std.specs.Prelude.{ℕ, ◌+◌, ◌-◌, ℤ, Bool, false, not, ◌||◌, if◌then◌else◌}
+use Rattle.std.specs.Prelude.{List, [], ◌∷◌, length, slice_get, take, drop}
+use Rattle.std.specs.List.{position_or_len}
 use Rattle.std.specs.Prelude.{Option, Some, None}
 use Rattle.std.specs.Ordering.{int_eq}
 use Rattle.ioa_tokens.specs.declared.token.Token.{Token}
 use Rattle.ioa_tokens.specs.declared.token.Token.TheVariants as token
 use Rattle.ioa_tokens.specs.declared.mark.Mark.TheVariants as mark
 use Rattle.ioa_tokens.specs.Tables.{same_mark}
-use Rattle.ioa_cursor.specs.Reading.{Reader, ◌>>=◌, choose, end, expect, number, word}
+use Rattle.ioa_cursor.specs.Reading.{Reader, ◌>>=◌, at, at_number, at_word, choose, end, expect, number}
+use Rattle.ioa_cursor.specs.Reading.{several_more, skip, word}
 use Rattle.ioa_values.specs.Data.{Data}
-use Rattle.ioa_operators.specs.Shapes.{PlainShape, shapes_of}
+use Rattle.ioa_operators.specs.Shapes.{PlainShape, constants, integers, shapes_of, truths}
 use Rattle.ioa_actions.specs.ActionParts.{input_at, locally_controlled_at, receive_name, send_name}
 use Rattle.ioa_actions.specs.declared.action.Action.{Action}
 use Rattle.ioa_actions.specs.declared.action.Action.TheVariants.{Send, Receive, Local, Stimulus}
@@ -18,8 +22,9 @@ use Rattle.ioa_terms.specs.SameTerms.{same_kind}
 use Rattle.ioa_terms.specs.declared.tree.Kind.TheVariants.{Input}
 use Rattle.ioa_system.specs.Parts.{PlainRule, rule_named}
 use Rattle.ioa_system.specs.Systems.{SystemParts, program_numbered}
+use Rattle.ioa_transitions.specs.Entries.{PlainEntry, entry}
 use Rattle.ioa_value_reader.specs.Grammar.{minus_amount}
-use Rattle.ioa_value_reader.specs.Reading.{read_parts}
+use Rattle.ioa_value_reader.specs.Reading.{read_parts, read_value}
 use Rattle.ioa_lines.specs.Grammar.{is_message_name}
 
 -- the token at a place that is counted from the end: the last one is at 1
@@ -108,6 +113,46 @@ behind_number (token.Word w ∷ xs) = token.Word w ∷ xs
 behind_number (token.LeftOut w ∷ xs) = token.LeftOut w ∷ xs
 behind_number [] = []
 
--- the action that the tokens of a line spell
+-- the action that tokens spell, with a number in front or none
 unfoldable pub line_action : SystemParts → List Token → Option Action
 line_action s xs = word (behind_number xs) >>= λ w. named_action s w.0 w.1
+
+-- whether a token is the word `choose`
+abbrev pub is_choose : Token → Bool
+is_choose (token.Mark m) = same_mark m mark.Choose
+is_choose (token.Word w) = false
+is_choose (token.Number n) = false
+is_choose (token.LeftOut w) = false
+
+-- where the first `choose` stands; at the end if there is none
+abbrev pub choose_place : List Token → ℕ
+choose_place xs = position_or_len is_choose xs
+
+-- the tokens in front of the first `choose`, and those from it on
+abbrev pub action_tokens : List Token → List Token
+action_tokens xs = take (choose_place xs) xs
+
+abbrev pub choice_tokens : List Token → List Token
+choice_tokens xs = drop (choose_place xs) xs
+
+-- the shape by which a chosen value is read, which its first token tells: a constant of any enumeration, a number, or
+-- else a truth value
+unfoldable pub simple_shape : List (List ℕ) → List Token → PlainShape
+simple_shape names xs =
+    choose (at_word xs) (constants [] 0 (length names)) (choose (at_number xs || at mark.Minus xs) integers truths)
+
+-- a number, a truth value or a constant
+abbrev pub read_simple : List (List ℕ) → Reader Data
+read_simple names xs = read_value names (simple_shape names xs) xs
+
+-- the values from `choose` on, with commas between and nothing behind; none if there is no token
+unfoldable pub read_chosen : List (List ℕ) → List Token → Option (List Data)
+read_chosen names [] = Some []
+read_chosen names (x ∷ xs) =
+    expect mark.Choose (x ∷ xs) >>= λ c. several_more (skip mark.Comma) (read_simple names) [] c.1 >>= λ vs.
+    end vs.1 >>= λ e. Some vs.0
+
+-- the entry that the tokens of a line spell
+unfoldable pub line_entry : SystemParts → List Token → Option PlainEntry
+line_entry s xs =
+    line_action s (action_tokens xs) >>= λ a. read_chosen s.names (choice_tokens xs) >>= λ vs. Some (entry a vs)

@@ -1,4 +1,4 @@
-//! The action that the tokens of a line spell.
+//! The action that the tokens of a line spell in front of `choose`.
 
 ghost use Rattle.std.specs.Prelude.{◌≡◌, IfOk};
 ghost use Rattle.std.specs.Option.{option_copied};
@@ -161,10 +161,10 @@ fn behind_number<'t>(tokens: &'t [LocatedToken<'t>]) -> &'t [LocatedToken<'t>]
     }
 }
 
-/// The action of a system that the tokens of a line spell. None if they spell none. Costs time in proportion to the
-/// tokens, to the programs and to the rules of one.
+/// The action of a system that tokens spell, with a number in front or none. None if they spell none. Costs time in
+/// proportion to the tokens, to the programs and to the rules of one.
 #[tactic(auto, unfolding(crate::specs::Reading::line_action, crate::specs::bind, crate::specs::word))]
-pub fn action_of<'t>(
+pub(crate) fn action_of<'t>(
     alloc: Global,
     system: &System,
     tokens: &'t [LocatedToken<'t>],

@@ -13,7 +13,7 @@ use ioa_value_reader::read_value;
 use std::alloc::Global;
 
 /// A value of a shape.
-fn value(
+pub(crate) fn value(
     alloc: Global,
     names: &Names,
     shape: &Shape,

@@ -1,7 +1,8 @@
-//! Schedule lines: from a line's tokens to the action of a system that it spells, and a text gone through line by line.
+//! Schedule lines: from a line's tokens to the entry of a system that it spells, its action and the values that its
+//! effect chose, and a text gone through line by line.
 //!
-//! **A crate of its own**, since it is what a schedule written as a text is read by, and stands on systems and not on
-//! how their texts are read.
+//! **A crate of its own**, since it is what a schedule written as a text is read by, and stands on systems and on what
+//! a log holds of a step, and not on how the texts of systems are read.
 //!
 //! **Must not know**: configurations, and how steps are taken.
 //!
@@ -10,12 +11,14 @@
 
 mod action;
 mod arguments;
+mod choices;
+mod entry;
 mod fault;
 mod laws;
 mod lines;
 mod node;
 
-pub use action::action_of;
+pub use entry::entry_spelled;
 pub use fault::LineFault;
 pub use laws::{line_law, lines_law};
-pub use lines::{ScheduleLines, actions_of};
+pub use lines::{ScheduleLines, entries_of};

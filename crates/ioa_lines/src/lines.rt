@@ -6,16 +6,16 @@ ghost use Rattle.ioa_tokens.specs.LineTokens.{line_tokens};
 ghost use Rattle.ioa_lines.specs.Lines as spec;
 ghost use Rattle.ioa_lines.specs.Lines.{bytes_behind, lines_behind, lines_left, lines_of};
 
-use crate::action::action_of;
+use crate::entry::entry_spelled;
 use crate::fault::LineFault;
-use ioa_actions::Action;
 use ioa_system::System;
 use ioa_tokens::{CutFault, LocatedToken, cut_line_into};
+use ioa_transitions::Entry;
 use std::alloc::Global;
 use std::marker::Model;
 
 /// The lines of a text that are still to be read, and how many with tokens came before them. All lines are cut into one
-/// list of tokens, so that no line takes memory but for its action. A contract sees the lines and the number.
+/// list of tokens, so that no line takes memory but for its entry. A contract sees the lines and the number.
 #[derive(Drop)]
 pub struct ScheduleLines<'a> {
     /// The text behind the lines that were read; nothing behind the last line.
@@ -50,16 +50,16 @@ fn first_line(text: &str) -> (&str, Option<&str>)
     }
 }
 
-/// The action that a line spells, behind `count` others that have tokens; nothing if it has no token.
-fn line_action<'a>(
+/// The entry that a line spells, behind `count` others that have tokens; nothing if it has no token.
+fn line_entry<'a>(
     alloc: Global,
     system: &System,
     count: usize,
     line: &'a str,
     tokens: &mut Vec<LocatedToken<'a>>,
-) -> Result<Option<Action>, LineFault>
+) -> Result<Option<Entry>, LineFault>
     ensures { Answers LineFault.Memory (λ o. o) result
-        (spec.cut_action system.now count (line_tokens line.now)) }
+        (spec.cut_entry system.now count (line_tokens line.now)) }
 {
     match cut_line_into(line, tokens) {
         Ok(()) => {}
@@ -71,8 +71,8 @@ fn line_action<'a>(
     if tokens.is_empty() {
         return Ok(None);
     }
-    match action_of(alloc, system, tokens)? {
-        Some(action) => Ok(Some(action)),
+    match entry_spelled(alloc, system, tokens)? {
+        Some(entry) => Ok(Some(entry)),
         None => Err(LineFault::BadLine(count)),
     }
 }
@@ -96,12 +96,12 @@ impl<'a> ScheduleLines<'a> {
         self.count
     }
 
-    /// Reads on up to the next line that has tokens, and returns the action of the system that it spells. None at the
-    /// end. Returns `BadLine` (61), with how many lines with tokens came before, if the line spells no action of the
+    /// Reads on up to the next line that has tokens, and returns the entry of the system that it spells. None at the
+    /// end. Returns `BadLine` (61), with how many lines with tokens came before, if the line spells no entry of the
     /// system, and `Memory` (3) if memory runs out; then it is not said what is left.
-    pub fn next(&mut self, alloc: Global, system: &System) -> Result<Option<Action>, LineFault>
+    pub fn next(&mut self, alloc: Global, system: &System) -> Result<Option<Entry>, LineFault>
         ensures answer { Answers LineFault.Memory (λ o. (o, self.new)) result (spec.next_answer system.now self.old) }
-        ensures actions { spec.TellsActions system.now self.old result self.new }
+        ensures entries { spec.TellsEntries system.now self.old result self.new }
         ensures fewer { IfOk result (λ o. IfSome o (λ _. length self.new.lines < length self.old.lines)) }
     {
         self.read_on(alloc, system)
@@ -109,31 +109,31 @@ impl<'a> ScheduleLines<'a> {
 
     /// Reads on up to the next line that has tokens.
     #[tactic(auto, unfolding(crate::specs::Lines::next_answer))]
-    fn read_on(&mut self, alloc: Global, system: &System) -> Result<Option<Action>, LineFault>
+    fn read_on(&mut self, alloc: Global, system: &System) -> Result<Option<Entry>, LineFault>
         ensures { Answers LineFault.Memory (λ o. (o, self.new)) result (spec.next_answer system.now self.old) }
     {
         while let Some(text) = self.rest {
             let (line, rest) = first_line(text);
             self.rest = rest;
-            if let Some(action) = line_action(alloc, system, self.count, line, &mut self.tokens)? {
+            if let Some(entry) = line_entry(alloc, system, self.count, line, &mut self.tokens)? {
                 self.count += 1;
-                return Ok(Some(action));
+                return Ok(Some(entry));
             }
         }
         Ok(None)
     }
 }
 
-/// The actions that the lines of a text spell, first to last. Returns `BadLine` (61) at the first line that spells no
-/// action of the system, and `Memory` (3) if memory runs out.
+/// The entries that the lines of a text spell, first to last. Returns `BadLine` (61) at the first line that spells no
+/// entry of the system, and `Memory` (3) if memory runs out.
 #[tactic(auto, using(crate::proofs::Left::behind_rules))]
-pub fn actions_of(alloc: Global, system: &System, text: &str) -> Result<Vec<Action>, LineFault>
+pub fn entries_of(alloc: Global, system: &System, text: &str) -> Result<Vec<Entry>, LineFault>
     ensures { Answers LineFault.Memory (λ v. v.items) result (spec.lines_answer system.now text.now) }
 {
     let mut lines = ScheduleLines::new(alloc, text);
-    let mut actions = Vec::new(alloc);
-    while let Some(action) = lines.next(alloc, system)? {
-        actions.push(action)?;
+    let mut entries = Vec::new(alloc);
+    while let Some(entry) = lines.next(alloc, system)? {
+        entries.push(entry)?;
     }
-    Ok(actions)
+    Ok(entries)
 }

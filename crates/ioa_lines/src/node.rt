@@ -1,4 +1,4 @@
-//! The node of the action that a line spells, by the line's end: it tells which rules the arguments are read by.
+//! The node of the action that a line spells, by the action's end: it tells which rules the arguments are read by.
 
 ghost use Rattle.std.specs.Prelude.{◌≡◌, ◌≤◌};
 ghost use Rattle.std.specs.Option.{option_copied, option_map};

@@ -4,7 +4,7 @@ use Rattle.std.specs.Fmt.{decimal, signed_decimal}
 use Rattle.std.specs.List.{flat_map}
 use Rattle.ioa_values.specs.Data.{Data}
 use Rattle.ioa_values.specs.Text.{text, with_commas}
-use Rattle.ioa_actions.specs.ActionText.{action_text, node_action_text}
+use Rattle.ioa_actions.specs.ActionText.{entry_text, node_action_text}
 use Rattle.ioa_transitions.specs.Entries.{PlainEntry}
 use Rattle.ioa_actions.specs.declared.component.Component.{Component}
 use Rattle.ioa_actions.specs.declared.component.Component.TheVariants as component
@@ -21,11 +21,12 @@ use Rattle.ioa_record.specs.Endings.{ending_text}
 use Rattle.ioa_verdicts.specs.declared.verdict.Verdict.{Verdict}
 use Rattle.ioa_verdicts.specs.Verdicts.{verdict_text, verdicts_of}
 
--- `k action`, one line an entry, counted from k
+-- `k action`, or `k action choose v, w` if the effect chose these values; one line an entry, counted from k
 abbrev pub entry_lines : List (List ℕ) → ℕ → List PlainEntry → List ℕ
 entry_lines names k [] = []
 entry_lines names k (e ∷ more) =
-    (decimal k ++ (codes " " ++ (action_text names e.action ++ codes "\n"))) ++ entry_lines names (k + 1) more
+    (decimal k ++ (codes " " ++ (entry_text names e.action e.chosen ++ codes "\n")))
+    ++ entry_lines names (k + 1) more
 
 -- `schedule n`, and then the n entries
 abbrev pub schedule_text : List (List ℕ) → List PlainEntry → List ℕ

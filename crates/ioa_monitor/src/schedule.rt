@@ -3,12 +3,12 @@
 ghost use Rattle.std.specs.Prelude.{◌≡◌, ◌++◌, ◌≤◌, [], codes, length};
 ghost use Rattle.std.specs.Fmt.{decimal, signed_decimal};
 ghost use Rattle.ioa_values.specs.Text.{text};
-ghost use Rattle.ioa_actions.specs.ActionText.{action_text, message_text, node_action_text};
+ghost use Rattle.ioa_actions.specs.ActionText.{action_text, entry_text, message_text, node_action_text};
 ghost use Rattle.ioa_paper.specs.Papers.{and_text};
 ghost use Rattle.ioa_monitor.specs.Reports.{entry_lines, schedule_text};
 
 use ioa_actions::{Action, NodeAction, RECEIVE, SEND};
-use ioa_paper::{Paper, Piece, put_node_action, put_value};
+use ioa_paper::{Paper, Piece, put_entry, put_node_action, put_value};
 use ioa_rawlog::RawLog;
 use ioa_streams::Out;
 use ioa_transitions::Entry;
@@ -31,13 +31,51 @@ fn put_entries<O: Out>(paper: &mut Paper<'_, O>, names: &Names, schedule: &RawLo
 {
     let mut position = 0;
     for entry in schedule.walk() {
-        put_entry(paper, names, position, entry.action());
+        put_entry_line(paper, names, position, entry.action(), entry.chosen());
         position += 1;
     }
 }
 
-/// Writes an action with its position.
-fn put_entry<O: Out>(paper: &mut Paper<'_, O>, names: &Names, position: usize, action: &Action)
+/// Writes an action with its position, and with what its effect chose. Few effects choose something.
+#[inline(always)]
+fn put_entry_line<O: Out>(
+    paper: &mut Paper<'_, O>,
+    names: &Names,
+    position: usize,
+    action: &Action,
+    chosen: &[Value],
+)
+    ensures { paper.new ≡ and_text paper.old
+        (decimal position ++ (codes " " ++ (entry_text names.now action.now chosen.now ++ codes "\n"))) }
+{
+    match chosen {
+        [] => put_plain(paper, names, position, action),
+        [_, ..] => put_choosing(paper, names, position, action, chosen),
+    }
+}
+
+/// Writes an action with its position, and with what its effect chose. Apart from the others, so that their lines cost
+/// nothing more.
+#[inline(never)]
+fn put_choosing<O: Out>(
+    paper: &mut Paper<'_, O>,
+    names: &Names,
+    position: usize,
+    action: &Action,
+    chosen: &[Value],
+)
+    ensures { paper.new ≡ and_text paper.old
+        (decimal position ++ (codes " " ++ (entry_text names.now action.now chosen.now ++ codes "\n"))) }
+{
+    paper.put_number(position);
+    paper.put(" ");
+    put_entry(paper, names, action, chosen);
+    paper.put("\n");
+}
+
+/// Writes an action whose effect chose nothing, with its position.
+#[inline(always)]
+fn put_plain<O: Out>(paper: &mut Paper<'_, O>, names: &Names, position: usize, action: &Action)
     ensures { paper.new ≡ and_text paper.old
         (decimal position ++ (codes " " ++ (action_text names.now action.now ++ codes "\n"))) }
 {

@@ -1,7 +1,8 @@
 -- Names in view, as the code finds them.
-use Rattle.std.proofs.Common.{◌≡◌, ◌+◌, ◌<◌, ◌≤◌, ℕ, ℤ, zero, suc, Bool, true, false, if◌then◌else◌, List, [], ◌∷◌, ◌++◌, Option, Some, None, length, map, nat_lt, take, slice_get, refl, ◌∙◌, ap, sym, subst, arith}
+use Rattle.std.proofs.Common.{◌≡◌, ◌+◌, ◌<◌, ◌≤◌, ◌^◌, ℕ, ℤ, zero, suc, Bool, true, false, if◌then◌else◌, List, [], ◌∷◌, ◌++◌, Option, Some, None, length, map, nat_lt, take, slice_get, refl, ◌∙◌, ap, sym, subst, arith}
 use Rattle.std.specs.List.{zip}
 use Rattle.std.proofs.lemmas.Bool.Decides.{nat_tests}
+use Rattle.std.proofs.lemmas.List.{length-append, append_assoc}
 use Rattle.std.specs.Option.{is_some, option_map, option_and_then, option_or}
 use Rattle.ioa_operators.specs.Shapes.{PlainShape}
 use Rattle.ioa_terms.specs.declared.name.Name.{Name}
@@ -85,7 +86,7 @@ next_or None p = refl
 next_or (Some q) p = refl
 
 -- a name of two lists is in the first, or else in the second and behind all names of the first
-in_two : (x : Name) (ns ms : NameShapes) → declared_at x (ns ++ ms) ≡ option_or (declared_at x ns) (behind (length ns) (declared_at x ms))
+pub in_two : (x : Name) (ns ms : NameShapes) → declared_at x (ns ++ ms) ≡ option_or (declared_at x ns) (behind (length ns) (declared_at x ms))
 in_two x [] ms = behind_none (declared_at x ms)
 in_two x (n ∷ ns) ms =
     by_test (ap (option_map next) (in_two x ns ms)
@@ -143,6 +144,31 @@ pub first_queue : (i j : ℤ) (outer own constants : NameShapes) → AreWords ow
 first_queue i j outer own constants h g = first_alone (Queue i j) outer own constants (no_queue i j own h) (no_queue i j constants g)
 
 pub ruleset in_first = (first_variable, first_queue)
+
+-- two lists of names are as many as both together
+pub both_many : (ns ms : NameShapes) → length ns + length ms ≡ length (ns ++ ms)
+both_many ns ms = sym (length-append ns ms)
+
+pub both_fit : (ns ms : NameShapes) → length (ns ++ ms) < 2 ^ 64 → length ns + length ms < 2 ^ 64
+both_fit ns ms h = subst (λ many. many < 2 ^ 64) (sym (both_many ns ms)) h
+
+pub ruleset both = (both_many, both_fit)
+
+-- a name that is no word is in neither of two lists of words
+in_neither : (x : Name) (ns ms : NameShapes) → None ≡ declared_at x ns → None ≡ declared_at x ms → None ≡ declared_at x (ns ++ ms)
+in_neither x ns ms h g = sym (in_two x ns ms ∙ rw (← h, ← g) refl)
+
+pub neither_variable : (w : List ℕ) (k : ℤ) (ns ms : NameShapes) → AreWords ns → AreWords ms → None ≡ declared_at (Variable w k) (ns ++ ms)
+neither_variable w k ns ms h g = in_neither (Variable w k) ns ms (no_variable w k ns h) (no_variable w k ms g)
+
+pub neither_queue : (i j : ℤ) (ns ms : NameShapes) → AreWords ns → AreWords ms → None ≡ declared_at (Queue i j) (ns ++ ms)
+neither_queue i j ns ms h g = in_neither (Queue i j) ns ms (no_queue i j ns h) (no_queue i j ms g)
+
+pub ruleset no_word_in_two = (neither_variable, neither_queue)
+
+-- names in front of others
+pub in_front : (front outer rest : NameShapes) → front ++ outer ++ rest ≡ front ++ (outer ++ rest)
+in_front front outer rest = append_assoc front outer rest
 
 -- the slot of a name, if it is below a number
 abbrev below : ℕ → Option (ℕ × PlainShape) → Option (ℕ × PlainShape)

@@ -1,7 +1,8 @@
 //! Names in view.
 
 ghost use Rattle.std.specs.Prelude.{◌≡◌, ◌++◌, IfOk, OnOk, take, map};
-ghost use Rattle.std.specs.Option.{option_map};
+ghost use Rattle.std.specs.Option.{is_some, option_map};
+ghost use Rattle.ioa_terms.specs.Sorted.{shape_named};
 ghost use Rattle.ioa_names.specs.OuterNames.{outer_names};
 ghost use Rattle.ioa_names.specs.Views.{declared_at, named};
 
@@ -13,8 +14,9 @@ use std::alloc::AllocError;
 use std::marker::Model;
 
 /// The names that a term may read, with their declared shapes: those that stand outside, or those that an invariant
-/// reads, then those that an entry declares itself, and then the text's constants. The slot of a name is its index
-/// among them. A contract sees the pairs of names and declared shapes.
+/// reads, then those that an entry declares itself, and then the text's constants. Where the condition of a choice is
+/// read, the name of its value stands in front of them. The slot of a name is its index among them. A contract sees the
+/// pairs of names and declared shapes.
 #[derive(Drop)]
 pub struct View<'a> {
     outer: Outer<'a>,
@@ -66,6 +68,23 @@ impl<'a> View<'a> {
         View::behind(Outer::Readings(readings), own, constants)
     }
 
+    /// The names of a table, and behind them those in view. Memory if there are more than a machine can count, or if no
+    /// room is in front of these names: there is one where a term of an entry is read, and it is taken once.
+    #[tactic(auto, using(crate::proofs::Named::in_front))]
+    pub fn with_front<'b>(&'b self, front: &'b NameTable) -> Result<View<'b>, AllocError>
+        ensures { IfOk result (λ v. v ≡ front.now ++ self.now) }
+    {
+        match self.outer {
+            Outer::Words(table) => View::behind(
+                Outer::Front(front, table),
+                self.own,
+                self.constants,
+            ),
+            Outer::Readings(_) => Err(AllocError),
+            Outer::Front(_, _) => Err(AllocError),
+        }
+    }
+
     /// The names of two tables behind others.
     fn behind(
         outer: Outer<'a>,
@@ -76,7 +95,7 @@ impl<'a> View<'a> {
     {
         own.words_law();
         constants.words_law();
-        let own_offset = outer.len();
+        let own_offset = outer.len()?;
         let constants_offset = own_offset.checked_add(own.len()).ok_or(AllocError)?;
         let _whole = constants_offset
             .checked_add(constants.len())
@@ -88,6 +107,14 @@ impl<'a> View<'a> {
             own_offset,
             constants_offset,
         })
+    }
+
+    /// Whether a word is one of the names in view.
+    #[tactic(auto, using(crate::proofs::Named::slot_or_shape))]
+    pub fn declares(&self, word: &Word) -> bool
+        ensures { result ≡ is_some (shape_named (Name.Word word.now) self.now) }
+    {
+        self.look_up(word).is_some()
     }
 
     /// The slot of a name, and its shape in a term, if it is in view.

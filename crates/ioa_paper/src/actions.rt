@@ -3,7 +3,8 @@
 ghost use Rattle.std.specs.Prelude.{◌≡◌, ◌++◌, codes, map};
 ghost use Rattle.ioa_values.specs.Text.{text, with_commas};
 ghost use Rattle.std.specs.Fmt.{signed_decimal};
-ghost use Rattle.ioa_actions.specs.ActionText.{action_text, arguments_text, message_text, node_action_text};
+ghost use Rattle.ioa_actions.specs.ActionText.{action_text, arguments_text, chosen_text, entry_text};
+ghost use Rattle.ioa_actions.specs.ActionText.{message_text, node_action_text};
 ghost use Rattle.ioa_paper.specs.Papers.{and_text};
 
 use crate::paper::Paper;
@@ -11,6 +12,15 @@ use crate::values::{put_separator, put_value};
 use ioa_actions::{Action, NodeAction, RECEIVE, SEND};
 use ioa_streams::Out;
 use ioa_values::{Names, Value};
+
+/// Writes the text of an action with the values that its effect chose: `a@k choose v, w`, or as `put_action` does if it
+/// chose none.
+pub fn put_entry<O: Out>(paper: &mut Paper<'_, O>, names: &Names, action: &Action, chosen: &[Value])
+    ensures { paper.new ≡ and_text paper.old (entry_text names.now action.now chosen.now) }
+{
+    put_action(paper, names, action);
+    put_choices(paper, names, chosen);
+}
 
 /// Writes the text of an action: `send(m, i, j)`, `receive(m, i, j)`, and `a(v, w)@k` or `a@k` for all others.
 pub fn put_action<O: Out>(paper: &mut Paper<'_, O>, names: &Names, action: &Action)
@@ -81,8 +91,21 @@ pub fn put_arguments<O: Out>(paper: &mut Paper<'_, O>, names: &Names, values: &[
     }
 }
 
+/// Writes the values that an effect chose, behind its action, or nothing if it chose none.
+pub fn put_choices<O: Out>(paper: &mut Paper<'_, O>, names: &Names, chosen: &[Value])
+    ensures { paper.new ≡ and_text paper.old (chosen_text names.now chosen.now) }
+{
+    match chosen {
+        [] => {}
+        [_, ..] => {
+            paper.put(" choose ");
+            put_listed(paper, names, chosen);
+        }
+    }
+}
+
 /// Writes values with commas between them.
-fn put_listed<O: Out>(paper: &mut Paper<'_, O>, names: &Names, values: &[Value])
+pub fn put_listed<O: Out>(paper: &mut Paper<'_, O>, names: &Names, values: &[Value])
     ensures { paper.new ≡ and_text paper.old (with_commas (map (text names.now) values.now)) }
 {
     for (position, value) in values.iter().enumerate() {

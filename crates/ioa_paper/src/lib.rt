@@ -14,7 +14,9 @@ mod paper;
 mod piece;
 mod values;
 
-pub use actions::{put_action, put_arguments, put_message, put_node_action};
+pub use actions::{
+    put_action, put_arguments, put_choices, put_entry, put_listed, put_message, put_node_action,
+};
 pub use fault::ReportFault;
 pub use paper::{Paper, room};
 pub use piece::{LENGTH, Piece};

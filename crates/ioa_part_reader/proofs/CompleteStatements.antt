@@ -6,27 +6,30 @@ use Rattle.ioa_tokens.specs.declared.token.Token.TheVariants as token
 use Rattle.ioa_tokens.specs.declared.mark.Mark.{Mark}
 use Rattle.ioa_tokens.specs.declared.mark.Mark.TheVariants as mark
 use Rattle.ioa_terms.specs.PlainTerm as plain
+use Rattle.ioa_terms.specs.PlainSort.{PlainSort}
 use Rattle.ioa_terms.specs.PlainTerm.{no_statements, statement, statements_of, no_arms, arm, arms_of}
 use Rattle.ioa_source.specs.Sides.{SourceTerm as Term, SourceTarget as Target, SourceStatement as Statement, SourceStatements as Statements, SourceArms as Arms, SourceFiring as Firing, SourceCall as Call}
 use Rattle.ioa_cursor.specs.Lists.{SeparatedBy, single, followed, SeparatedOrEndedBy, last, closed, continued, Section}
 use Rattle.ioa_terms.specs.declared.tree.Kind.{Kind}
 use Rattle.ioa_cursor.specs.Reading.{bind, choose, skip, expect, word, at, at_word, peek_mark}
 use Rattle.ioa_cursor.proofs.Steps.{read_next, stays}
-use Rattle.ioa_cursor.proofs.Follow.{skip_other}
+use Rattle.ioa_cursor.proofs.Follow.{skip_same, skip_other}
 use Rattle.ioa_cursor.proofs.CompleteLists.{separated_complete, ended_complete, section_complete}
 use Rattle.ioa_source.specs.Heights.{height_limit, statement_height, statements_height, arms_height}
 use Rattle.ioa_term_reader.specs.Grammar.{bracket_limit, SpellsTerm}
 use Rattle.ioa_term_reader.specs.Reading.{term}
+use Rattle.ioa_term_reader.proofs.Begins.{term_begins, skip_at_term}
 use Rattle.ioa_term_reader.proofs.Shorter.{term_shorter}
 use Rattle.ioa_term_reader.proofs.CompleteTerms.{height_positive}
 use Rattle.ioa_part_reader.specs.declared.statement.Context.{Context}
 use Rattle.ioa_part_reader.specs.declared.statement.Context.TheVariants.{Effect, Block}
 use Rattle.ioa_part_reader.specs.Grammar as grammar
-use Rattle.ioa_part_reader.specs.Grammar.{inner_limit, SpellsTarget, SpellsStatement, SpellsArms, SpellsRest, SpellsStatements, SpellsCall, SpellsFiring, SpellsLow}
+use Rattle.ioa_part_reader.specs.Grammar.{inner_limit, SpellsSort, SpellsTarget, SpellsStatement, SpellsArms, SpellsRest, SpellsStatements, SpellsCall, SpellsFiring, SpellsLow}
 use Rattle.ioa_part_reader.specs.Reading as reading
 use Rattle.ioa_part_reader.proofs.Closing.{Below, level, at_below, skip_below, begins_statement_below, at_word_no_mark}
 use Rattle.ioa_part_reader.specs.Reading.{kind_first, at_kind}
 use Rattle.ioa_part_reader.proofs.Shorter.{statement_shorter, statements_shorter}
+use Rattle.ioa_part_reader.proofs.CompleteSorts.{sort_complete}
 use Rattle.ioa_part_reader.proofs.CompleteSignatures.{whole_term, inner_term, call_complete, kind_complete, kind_begins}
 
 -- statements and arms as lists
@@ -82,7 +85,7 @@ target_first _ _ _ grammar.at_a_field = refl
 
 assignment_read : (p : Target) (t : Term) (xs ys zs : List Token) → reading.target xs ≡ read_next p (token.Mark mark.Assign ∷ ys) → term bracket_limit ys ≡ read_next t zs →
     reading.assignment xs ≡ read_next (plain.assign p t) zs
-unfolding reading.assignment expect skip bind
+unfolding reading.assignment reading.assigned_term expect skip bind
 assignment_read p t xs ys zs e f = rw e (rw f refl)
 
 assignment_complete : (p : Target) (t : Term) (xs ys zs : List Token) → SpellsTarget p xs (token.Mark mark.Assign ∷ ys) → SpellsTerm bracket_limit t ys zs → level zs < 14 →
@@ -92,6 +95,58 @@ assignment_complete p t xs ys zs pd td h = assignment_read p t xs ys zs (target_
 limited_low : (s : Statement) → statement_height s ≤ height_limit → reading.limited_statement s ≡ Some s
 unfolding reading.limited_statement
 limited_low s h = rw (le-leb (statement_height s) height_limit h) refl
+
+-- how a statement of an effect goes on after its target and `:=`
+effect_read : (p : Target) (xs ys : List Token) → reading.target xs ≡ read_next p (token.Mark mark.Assign ∷ ys) →
+    reading.effect_statement xs ≡ choose (skip mark.Choose ys).0 (reading.choosing p (skip mark.Choose ys).1) (reading.assigned_term p (skip mark.Choose ys).1)
+unfolding reading.effect_statement expect bind
+effect_read p xs ys e = rw e (rw (skip_same mark.Assign ys) refl)
+
+assigned_read : (p : Target) (t : Term) (ys zs : List Token) → skip mark.Choose ys ≡ stays false ys → term bracket_limit ys ≡ read_next t zs →
+    choose (skip mark.Choose ys).0 (reading.choosing p (skip mark.Choose ys).1) (reading.assigned_term p (skip mark.Choose ys).1) ≡ read_next (plain.assign p t) zs
+unfolding reading.assigned_term bind choose
+assigned_read p t ys zs e f = rw e (rw f refl)
+
+effect_assignment_complete : (p : Target) (t : Term) (xs ys zs : List Token) → SpellsTarget p xs (token.Mark mark.Assign ∷ ys) → SpellsTerm bracket_limit t ys zs → level zs < 14 →
+    reading.effect_statement xs ≡ read_next (plain.assign p t) zs
+effect_assignment_complete p t xs ys zs pd td h =
+    effect_read p xs ys (target_complete p xs _ pd (omega arith)) ∙ assigned_read p t ys zs (skip_at_term mark.Choose refl ys (term_begins td)) (whole_term t ys zs td h)
+
+-- choices
+
+name_read : (w : List ℕ) (s : PlainSort) (xs ys : List Token) → reading.sort bracket_limit xs ≡ read_next s ys → reading.chosen_name (token.Word w ∷ token.Mark mark.Colon ∷ xs) ≡ read_next (w, s) ys
+unfolding reading.chosen_name word expect skip bind
+name_read w s xs ys e = rw e refl
+
+terms_read : (t u : Term) (xs ys zs : List Token) → term bracket_limit xs ≡ read_next t (token.Mark mark.Yield ∷ ys) → term bracket_limit ys ≡ read_next u zs →
+    reading.chosen_terms (token.Mark mark.Where ∷ xs) ≡ read_next (t, u) zs
+unfolding reading.chosen_terms expect skip bind
+terms_read t u xs ys zs e f = rw e (rw f refl)
+
+-- the statement of a choice
+abbrev choice_of : Target → List ℕ → PlainSort → Term → Term → Statement
+choice_of p w s t u = plain.choosing (plain.choice_with p w s tt t u)
+
+choosing_read : (p : Target) (w : List ℕ) (s : PlainSort) (t u : Term) (xs ys zs : List Token) → reading.chosen_name xs ≡ read_next (w, s) ys → reading.chosen_terms ys ≡ read_next (t, u) zs →
+    reading.limited_statement (choice_of p w s t u) ≡ Some (choice_of p w s t u) → reading.choosing p xs ≡ read_next (choice_of p w s t u) zs
+unfolding reading.choosing bind
+choosing_read p w s t u xs ys zs e f g = rw e (rw f (rw g refl))
+
+chosen_read : (p : Target) (s : Statement) (ys zs : List Token) → reading.choosing p ys ≡ read_next s zs →
+    choose (skip mark.Choose (token.Mark mark.Choose ∷ ys)).0 (reading.choosing p (skip mark.Choose (token.Mark mark.Choose ∷ ys)).1) (reading.assigned_term p (skip mark.Choose (token.Mark mark.Choose ∷ ys)).1)
+    ≡ read_next s zs
+unfolding skip choose
+chosen_read p s ys zs e = e
+
+choosing_complete : (p : Target) (w : List ℕ) (s : PlainSort) (t u : Term) (xs ys zs us vs : List Token) →
+    SpellsTarget p xs (token.Mark mark.Assign ∷ token.Mark mark.Choose ∷ token.Word w ∷ token.Mark mark.Colon ∷ ys) → SpellsSort bracket_limit s ys (token.Mark mark.Where ∷ zs) →
+    SpellsTerm bracket_limit t zs (token.Mark mark.Yield ∷ us) → SpellsTerm bracket_limit u us vs → level vs < 14 → statement_height (choice_of p w s t u) ≤ height_limit →
+    reading.effect_statement xs ≡ read_next (choice_of p w s t u) vs
+choosing_complete p w s t u xs ys zs us vs pd sd td ud h low =
+    let named = name_read w s ys (token.Mark mark.Where ∷ zs) (sort_complete bracket_limit s ys _ sd) in
+    let terms = terms_read t u zs us vs (whole_term t zs _ td (omega arith)) (whole_term u us vs ud h) in
+    effect_read p xs _ (target_complete p xs _ pd (omega arith))
+    ∙ chosen_read p (choice_of p w s t u) _ vs (choosing_read p w s t u _ _ vs named terms (limited_low (choice_of p w s t u) low))
 
 limited_choice : (arms : Arms) (rest : Statements) → statement_height (plain.branch arms rest) ≤ height_limit →
     reading.limited_statement (plain.branch (arms_of (arm_list arms)) (statements_of (statement_list rest))) ≡ Some (plain.branch arms rest)
@@ -150,11 +205,19 @@ module _ (next : List Token → Option (List Statement × List Token)) where
     reads : level ys < 11 → reading.one_arm next xs ≡ read_next a ys
     shorter : length ys < length xs
 
-  assigned : (c : Context) (p : Target) (t : Term) (xs zs : List Token) → skip mark.If xs ≡ stays false xs → skip mark.While xs ≡ stays false xs → skip mark.Fire xs ≡ stays false xs →
-      reading.assignment xs ≡ read_next (plain.assign p t) zs → reading.one_statement next c xs ≡ read_next (plain.assign p t) zs
+  in_effect : (s : Statement) (xs zs : List Token) → skip mark.If xs ≡ stays false xs → reading.effect_statement xs ≡ read_next s zs → reading.one_statement next Effect xs ≡ read_next s zs
+  unfolding reading.one_statement reading.other_statement choose
+  in_effect s xs zs e f = rw e f
+
+  in_block : (s : Statement) (xs zs : List Token) → skip mark.If xs ≡ stays false xs → skip mark.While xs ≡ stays false xs → skip mark.Fire xs ≡ stays false xs →
+      reading.assignment xs ≡ read_next s zs → reading.one_statement next Block xs ≡ read_next s zs
   unfolding reading.one_statement reading.other_statement reading.block_statement choose
-  assigned Effect p t xs zs e w i f = rw e f
-  assigned Block p t xs zs e w i f = rw e (rw w (rw i f))
+  in_block s xs zs e w i f = rw e (rw w (rw i f))
+
+  assigned : (c : Context) (p : Target) (t : Term) (xs ys zs : List Token) → ((m : Mark) → skip m xs ≡ stays false xs) → SpellsTarget p xs (token.Mark mark.Assign ∷ ys) →
+      SpellsTerm bracket_limit t ys zs → level zs < 14 → reading.one_statement next c xs ≡ read_next (plain.assign p t) zs
+  assigned Effect p t xs ys zs no_mark pd td h = in_effect (plain.assign p t) xs zs (no_mark mark.If) (effect_assignment_complete p t xs ys zs pd td h)
+  assigned Block p t xs ys zs no_mark pd td h = in_block (plain.assign p t) xs zs (no_mark mark.If) (no_mark mark.While) (no_mark mark.Fire) (assignment_complete p t xs ys zs pd td h)
 
   loop_read : (t : Term) (rs : List Statement) (s : Statement) (xs ys zs : List Token) → term bracket_limit xs ≡ read_next t (token.Mark mark.Do ∷ ys) →
       next ys ≡ read_next rs (token.Mark mark.Od ∷ zs) → reading.limited_statement (plain.loop t (statements_of rs)) ≡ Some s →
@@ -167,10 +230,10 @@ module _ (next : List Token → Option (List Statement × List Token)) where
   unfolding reading.one_statement reading.other_statement reading.block_statement reading.fire_statement skip bind choose
   fire_read x xs ys e f = rw e (rw f refl)
 
-  chosen_read : (c : Context) (arms : List (Term × Statements)) (rs : List Statement) (s : Statement) (xs ys zs : List Token) → reading.all_arms next xs ≡ read_next arms ys → reading.rest_of next ys ≡ read_next rs zs →
+  branch_read : (c : Context) (arms : List (Term × Statements)) (rs : List Statement) (s : Statement) (xs ys zs : List Token) → reading.all_arms next xs ≡ read_next arms ys → reading.rest_of next ys ≡ read_next rs zs →
       reading.limited_statement (plain.branch (arms_of arms) (statements_of rs)) ≡ Some s → reading.one_statement next c (token.Mark mark.If ∷ xs) ≡ read_next s zs
   unfolding reading.one_statement reading.choice skip bind choose
-  chosen_read c arms rs s xs ys zs e f g = rw e (rw f (rw g refl))
+  branch_read c arms rs s xs ys zs e f g = rw e (rw f (rw g refl))
 
   arm_read : (t : Term) (body : Statements) (xs ys zs : List Token) → term bracket_limit xs ≡ read_next t (token.Mark mark.Then ∷ ys) → next ys ≡ read_next (statement_list body) zs →
       reading.one_arm next xs ≡ read_next (t, body) zs
@@ -220,7 +283,7 @@ mutual
       let first : at_word xs ≡ true = target_first p xs _ pd in
       let no_mark : (m : Mark) → skip m xs ≡ stays false xs = λ m. skip_other m xs (at_word_no_mark m xs first) in
       record {
-        reads = λ h. assigned (reading.statements_in c depth) c p t xs ys (no_mark mark.If) (no_mark mark.While) (no_mark mark.Fire) (assignment_complete p t xs us ys pd td h);
+        reads = λ h. assigned (reading.statements_in c depth) c p t xs us ys no_mark pd td h;
         begins = word_begins c xs first;
         shorter = statement_shorter (grammar.assignment {c = c} pd td);
       }
@@ -236,11 +299,19 @@ mutual
     begins = fire_begins xs;
     shorter = statement_shorter (grammar.fire_statement d);
   }
+  statement_complete (grammar.choosing {p = p} {w = w} {s = s} {t = t} {u = u} {xs = xs} {ys = ys} {zs = zs} {us = us} {vs = vs} pd sd td ud) depth low deep =
+      let first : at_word xs ≡ true = target_first p xs _ pd in
+      record {
+        reads = λ h. in_effect (reading.statements_in Effect depth) (choice_of p w s t u) xs vs (skip_other mark.If xs (at_word_no_mark mark.If xs first))
+            (choosing_complete p w s t u xs ys zs us vs pd sd td ud h (omega arith));
+        begins = word_begins Effect xs first;
+        shorter = statement_shorter (grammar.choosing pd sd td ud);
+      }
   statement_complete (grammar.choice {c = c} {arms = arms} {xs = xs} {ys = us} ad rd) zero low deep = let p = arms_positive c arms xs us ad in absurd (omega arith)
   statement_complete (grammar.choice {c = c} {arms = arms} {rest = rest} {xs = xs} {ys = us} {zs = ys} ad rd) (suc depth) low deep =
       let next : List Token → Option (List Statement × List Token) = reading.statements_in c (suc depth) in
       record {
-        reads = λ h. chosen_read next c (arm_list arms) (statement_list rest) (plain.branch arms rest) xs us ys
+        reads = λ h. branch_read next c (arm_list arms) (statement_list rest) (plain.branch arms rest) xs us ys
             (all_arms_read next (arm_list arms) xs us (arms_complete ad depth (omega arith) (omega arith)) (rest_level c rest us ys rd) (rest_no_arm c rest us ys rd))
             (rest_complete rd depth (omega arith) (omega arith)) (limited_choice arms rest (omega arith));
         begins = if_begins c xs;
@@ -298,6 +369,7 @@ statement_not_over (grammar.assignment {p = p} {xs = xs} pd td) = at_word_no_mar
 statement_not_over (grammar.choice ad rd) = refl
 statement_not_over (grammar.repetition td bd) = refl
 statement_not_over (grammar.fire_statement d) = refl
+statement_not_over (grammar.choosing {p = p} {xs = xs} pd sd td ud) = at_word_no_mark mark.Od xs (target_first p xs _ pd)
 
 pub statements_not_over : {c : Context} {ss : Statements} {xs ys : List Token} → SpellsStatements c ss xs ys → at mark.Od xs ≡ false
 statements_not_over (grammar.last_statement d) = statement_not_over d

@@ -92,6 +92,12 @@ mutual
   statement_shorter (grammar.choice arms rest) = let a = arms_shorter arms in let b = rest_shorter rest in omega arith
   statement_shorter (grammar.repetition t body) = let a = term_shorter _ _ _ _ t in let b = statements_shorter body in omega arith
   statement_shorter (grammar.fire_statement d) = let a = firing_shorter d in omega arith
+  statement_shorter (grammar.choosing p s t u) =
+      let a = target_shorter _ _ _ p in
+      let b = sort_shorter _ _ _ _ s in
+      let c = term_shorter _ _ _ _ t in
+      let d = term_shorter _ _ _ _ u in
+      omega arith
 
   arms_shorter : {c : Context} {arms : Arms} {xs ys : List Token} → SpellsArms c arms xs ys → length ys < length xs
   arms_shorter (grammar.one_arm t body) = let a = term_shorter _ _ _ _ t in let b = statements_shorter body in omega arith

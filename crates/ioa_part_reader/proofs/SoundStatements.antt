@@ -1,12 +1,14 @@
 -- What is read of statements is spelled, and none of them is too high.
-use Rattle.std.proofs.Common.{◌≡◌, ◌≤◌, ℕ, zero, suc, Bool, true, false, List, ◌∷◌, Option, Some, None, nat_le, if◌then◌else◌, refl, arith}
+use Rattle.std.proofs.Common.{◌≡◌, ◌≤◌, ℕ, zero, suc, Bool, true, false, List, ◌∷◌, Option, Some, None, nat_le, if◌then◌else◌, refl, ap, ◌∙◌, arith}
 use Rattle.std.proofs.Math.Nat.{max-le}
 use Rattle.std.proofs.lemmas.Option.{some_pair_parts}
 use Rattle.std.proofs.lemmas.Bool.{leb-true}
 use Rattle.ioa_tokens.specs.declared.token.Token.{Token}
 use Rattle.ioa_tokens.specs.declared.token.Token.TheVariants as token
 use Rattle.ioa_tokens.specs.declared.mark.Mark.TheVariants as mark
+use Rattle.ioa_terms.specs.PlainTerm as plain
 use Rattle.ioa_terms.specs.PlainTerm.{statements_of, arms_of}
+use Rattle.ioa_terms.specs.PlainSort.{PlainSort}
 use Rattle.ioa_source.specs.Sides.{SourceTerm as Term, SourceTarget as Target, SourceStatement as Statement, SourceStatements as Statements, SourceFiring as Firing}
 use Rattle.ioa_cursor.specs.Lists.{SeparatedBy, single, followed, SeparatedOrEndedBy, last, closed, continued}
 use Rattle.ioa_cursor.proofs.Steps.{read_next, choose_cases, bind_cases, skip_taken, skip_left, expected_taken, word_taken}
@@ -16,9 +18,10 @@ use Rattle.ioa_term_reader.specs.Grammar.{SpellsTerm, bracket_limit}
 use Rattle.ioa_part_reader.specs.declared.statement.Context.{Context}
 use Rattle.ioa_part_reader.specs.declared.statement.Context.TheVariants.{Effect, Block}
 use Rattle.ioa_part_reader.specs.Grammar as grammar
-use Rattle.ioa_part_reader.specs.Grammar.{SpellsTarget, SpellsStatement, SpellsStatements, SpellsArms, SpellsRest, SpellsFiring, SpellsLow}
+use Rattle.ioa_part_reader.specs.Grammar.{SpellsSort, SpellsTarget, SpellsStatement, SpellsStatements, SpellsArms, SpellsRest, SpellsFiring, SpellsLow}
 use Rattle.ioa_part_reader.specs.Reading as reading
 use Rattle.ioa_term_reader.proofs.Sound.{term_sound}
+use Rattle.ioa_part_reader.proofs.SoundSorts.{sort_sound}
 use Rattle.ioa_part_reader.proofs.SoundDeclared.{call_sound}
 use Rattle.ioa_part_reader.proofs.SoundParts.{kind_sound}
 
@@ -63,15 +66,22 @@ record LowStatement (c : Context) (s : Statement) (xs ys : List Token) : Type 0 
   spelled : SpellsStatement c s xs ys
   low : statement_height s ≤ height_limit
 
+assigned_term_sound : (c : Context) (q : Target) (xs us ys : List Token) (s : Statement) → LowTarget q xs (token.Mark mark.Assign ∷ us) → reading.assigned_term q us ≡ read_next s ys → LowStatement c s xs ys
+unfolding reading.assigned_term
+assigned_term_sound c q xs us ys s target e =
+    let P : Type 0 = LowStatement c s xs ys in
+    bind_cases P e (λ t t_is done.
+    let p = some_pair_parts _ _ _ _ done in
+    let value = term_sound bracket_limit us t.1 t.0 t_is in
+    rw (← p.0, ← p.1) (record { spelled = grammar.assignment target.spelled value; low = max-le target.low value.low }))
+
 assignment_sound : (c : Context) (xs ys : List Token) (s : Statement) → reading.assignment xs ≡ read_next s ys → LowStatement c s xs ys
 unfolding reading.assignment
 assignment_sound c xs ys s e =
     let P : Type 0 = LowStatement c s xs ys in
-    bind_cases P e (λ q q_is e1. bind_cases P e1 (λ a a_is e2. bind_cases P e2 (λ t t_is done.
-    let p = some_pair_parts _ _ _ _ done in
+    bind_cases P e (λ q q_is e1. bind_cases P e1 (λ a a_is more.
     let target = rw (expected_taken mark.Assign q.1 a a_is) at (target_sound xs q.1 q.0 q_is) in
-    let value = term_sound bracket_limit a.1 t.1 t.0 t_is in
-    rw (← p.0, ← p.1) (record { spelled = grammar.assignment target.spelled value; low = max-le target.low value.low }))))
+    assigned_term_sound c q.0 xs a.1 ys s target more))
 
 limited_if : (b : Bool) (s r : Statement) → (b ≡ true → statement_height s ≤ height_limit) → (if b then Some s else None) ≡ Some r →
     (s ≡ r) × (statement_height s ≤ height_limit)
@@ -81,6 +91,69 @@ limited_if false s r low e = absurd cc
 limited_taken : (s r : Statement) → reading.limited_statement s ≡ Some r → (s ≡ r) × (statement_height s ≤ height_limit)
 unfolding reading.limited_statement
 limited_taken s r e = limited_if (nat_le (statement_height s) height_limit) s r (leb-true (statement_height s) height_limit) e
+
+-- the name of a choice and its sort
+record SpellsName (n : List ℕ × PlainSort) (xs ys : List Token) : Type 0 where
+  inner : List Token
+  taken : xs ≡ token.Word n.0 ∷ token.Mark mark.Colon ∷ inner
+  sort : SpellsSort bracket_limit n.1 inner ys
+
+chosen_name_sound : (xs ys : List Token) (n : List ℕ × PlainSort) → reading.chosen_name xs ≡ read_next n ys → SpellsName n xs ys
+unfolding reading.chosen_name
+chosen_name_sound xs ys n e =
+    let P : Type 0 = SpellsName n xs ys in
+    bind_cases P e (λ w w_is e1. bind_cases P e1 (λ c c_is e2. bind_cases P e2 (λ s s_is done.
+    let p = some_pair_parts _ _ _ _ done in
+    let first = word_taken xs w w_is in
+    let second = expected_taken mark.Colon w.1 c c_is in
+    rw (← p.0, ← p.1) (record { inner = c.1; taken = first ∙ ap (λ zs. token.Word w.0 ∷ zs) second; sort = sort_sound bracket_limit c.1 s.1 s.0 s_is }))))
+
+-- the condition of a choice, and the term that yields its value
+record SpellsCondition (t : Term × Term) (xs ys : List Token) : Type 0 where
+  inner : List Token
+  between : List Token
+  taken : xs ≡ token.Mark mark.Where ∷ inner
+  condition : SpellsTerm bracket_limit t.0 inner (token.Mark mark.Yield ∷ between)
+  yields : SpellsTerm bracket_limit t.1 between ys
+
+chosen_terms_sound : (xs ys : List Token) (t : Term × Term) → reading.chosen_terms xs ≡ read_next t ys → SpellsCondition t xs ys
+unfolding reading.chosen_terms
+chosen_terms_sound xs ys t e =
+    let P : Type 0 = SpellsCondition t xs ys in
+    bind_cases P e (λ h h_is e1. bind_cases P e1 (λ q q_is e2. bind_cases P e2 (λ m m_is e3. bind_cases P e3 (λ u u_is done.
+    let p = some_pair_parts _ _ _ _ done in
+    let condition = rw (expected_taken mark.Yield q.1 m m_is) at (term_sound bracket_limit h.1 q.1 q.0 q_is) in
+    let yields = term_sound bracket_limit m.1 u.1 u.0 u_is in
+    rw (← p.0, ← p.1) (record { inner = h.1; between = m.1; taken = expected_taken mark.Where xs h h_is; condition = condition; yields = yields })))))
+
+-- a choice of such parts
+choosing_spelled : {q : Target} {w : List ℕ} {s : PlainSort} {t u : Term} {xs us ys zs ws rs vs : List Token} →
+    SpellsTarget q xs (token.Mark mark.Assign ∷ token.Mark mark.Choose ∷ us) → us ≡ token.Word w ∷ token.Mark mark.Colon ∷ ys → SpellsSort bracket_limit s ys zs →
+    zs ≡ token.Mark mark.Where ∷ ws → SpellsTerm bracket_limit t ws (token.Mark mark.Yield ∷ rs) → SpellsTerm bracket_limit u rs vs →
+    SpellsStatement Effect (plain.choosing (plain.choice_with q w s tt t u)) xs vs
+choosing_spelled target named sort asked condition yields = grammar.choosing (rw named at target) (rw asked at sort) condition yields
+
+choosing_sound : (q : Target) (xs us ys : List Token) (s : Statement) → SpellsTarget q xs (token.Mark mark.Assign ∷ token.Mark mark.Choose ∷ us) → reading.choosing q us ≡ read_next s ys → LowStatement Effect s xs ys
+unfolding reading.choosing
+choosing_sound q xs us ys s target e =
+    let P : Type 0 = LowStatement Effect s xs ys in
+    bind_cases P e (λ n n_is e1. bind_cases P e1 (λ t t_is e2. bind_cases P e2 (λ l l_is done.
+    let p = some_pair_parts _ _ _ _ done in
+    let limited = limited_taken _ l l_is in
+    let name = chosen_name_sound us n.1 n.0 n_is in
+    let terms = chosen_terms_sound n.1 t.1 t.0 t_is in
+    let spelled = choosing_spelled target name.taken name.sort terms.taken terms.condition terms.yields in
+    rw (← p.0, ← limited.0, ← p.1) (record { spelled = spelled; low = limited.1 }))))
+
+effect_statement_sound : (xs ys : List Token) (s : Statement) → reading.effect_statement xs ≡ read_next s ys → LowStatement Effect s xs ys
+unfolding reading.effect_statement
+effect_statement_sound xs ys s e =
+    let P : Type 0 = LowStatement Effect s xs ys in
+    bind_cases P e (λ q q_is e1. bind_cases P e1 (λ a a_is more.
+    let target = rw (expected_taken mark.Assign q.1 a a_is) at (target_sound xs q.1 q.0 q_is) in
+    choose_cases P more
+    (λ chosen last. choosing_sound q.0 xs _ ys s (rw (skip_taken mark.Choose a.1 chosen) at target.spelled) last)
+    (λ no_choice last. assigned_term_sound Effect q.0 xs _ ys s (rw (← skip_left mark.Choose a.1 no_choice) at target) last)))
 
 firing_sound : (xs ys : List Token) (x : Firing) → reading.firing xs ≡ read_next x ys → SpellsFiring x xs ys
 unfolding reading.firing
@@ -192,7 +265,7 @@ other_statement_sound : (c : Context) (next : List Token → Option (List Statem
     ((xs ys : List Token) (ss : List Statement) → next xs ≡ read_next ss ys → SpellsLow c ss xs ys) →
     (xs ys : List Token) (s : Statement) → reading.other_statement next c xs ≡ read_next s ys → LowStatement c s xs ys
 unfolding reading.other_statement
-other_statement_sound Effect next sound xs ys s e = assignment_sound Effect xs ys s e
+other_statement_sound Effect next sound xs ys s e = effect_statement_sound xs ys s e
 other_statement_sound Block next sound xs ys s e = block_statement_sound next sound xs ys s e
 
 one_statement_sound : (c : Context) (next : List Token → Option (List Statement × List Token)) →

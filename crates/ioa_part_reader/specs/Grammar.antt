@@ -129,8 +129,9 @@ pub data SpellsFiring : Firing → List Token → List Token → Type 0 where
       SpellsFiring (terms.firing (Some k) call.name tt call.arguments) xs zs
 
 mutual
-  -- Statement: Target := Term, or if Arms [else Statements] fi; in a schedule block also while Term do Statements od,
-  -- or fire [Kind] Call
+  -- Statement: Target := Term, or if Arms [else Statements] fi; in an effect also
+  -- Target := choose Word : Sort where Term yield Term; in a schedule block also while Term do Statements od, or
+  -- fire [Kind] Call
   pub data SpellsStatement : Context → Statement → List Token → List Token → Type 0 where
     assignment : {c : Context} {p : Target} {t : Term} {xs ys zs : List Token} →
         SpellsTarget p xs (token.Mark mark.Assign ∷ ys) → SpellsTerm bracket_limit t ys zs →
@@ -144,6 +145,11 @@ mutual
         SpellsStatement Block (loop t body) (token.Mark mark.While ∷ xs) zs
     fire_statement : {f : Firing} {xs ys : List Token} → SpellsFiring f xs ys →
         SpellsStatement Block (fire f) (token.Mark mark.Fire ∷ xs) ys
+    choosing : {p : Target} {w : List ℕ} {s : PlainSort} {t u : Term} {xs ys zs us vs : List Token} →
+        SpellsTarget p xs (token.Mark mark.Assign ∷ token.Mark mark.Choose ∷ token.Word w ∷ token.Mark mark.Colon ∷ ys) →
+        SpellsSort bracket_limit s ys (token.Mark mark.Where ∷ zs) →
+        SpellsTerm bracket_limit t zs (token.Mark mark.Yield ∷ us) → SpellsTerm bracket_limit u us vs →
+        SpellsStatement Effect (terms.choosing (terms.choice_with p w s tt t u)) xs vs
 
   -- Arms: Term then Statements {elseif Term then Statements}
   pub data SpellsArms : Context → Arms → List Token → List Token → Type 0 where

@@ -195,14 +195,42 @@ target xs =
     (word (skip mark.Dot (skip mark.OpenSquare w.1).1).1 >>= λ f. Some (plain.at_field w.0 tt tt f.0, f.1))
     (Some (plain.variable w.0 tt tt, (skip mark.Dot (skip mark.OpenSquare w.1).1).1)))
 
+-- Term, after the target `p` and :=
+unfoldable pub assigned_term : Target → List Token → Option (Statement × List Token)
+assigned_term p xs = term bracket_limit xs >>= λ t. Some (plain.assign p t.0, t.1)
+
 -- Target := Term
 unfoldable pub assignment : List Token → Option (Statement × List Token)
-assignment xs =
-    target xs >>= λ p. expect mark.Assign p.1 >>= λ a. term bracket_limit a.1 >>= λ t. Some (plain.assign p.0 t.0, t.1)
+assignment xs = target xs >>= λ p. expect mark.Assign p.1 >>= λ a. assigned_term p.0 a.1
 
 -- a statement, if it is not too high
 unfoldable pub limited_statement : Statement → Option Statement
 limited_statement s = if nat_le (statement_height s) height_limit then Some s else None
+
+-- Word : Sort, after `choose`
+unfoldable pub chosen_name : List Token → Option ((List ℕ × PlainSort) × List Token)
+chosen_name xs =
+    word xs >>= λ w. expect mark.Colon w.1 >>= λ c. sort bracket_limit c.1 >>= λ s. Some ((w.0, s.0), s.1)
+
+-- where Term yield Term
+unfoldable pub chosen_terms : List Token → Option ((Term × Term) × List Token)
+chosen_terms xs =
+    expect mark.Where xs >>= λ h. term bracket_limit h.1 >>= λ t. expect mark.Yield t.1 >>= λ y.
+    term bracket_limit y.1 >>= λ u. Some ((t.0, u.0), u.1)
+
+-- Word : Sort where Term yield Term, after the target `p`, := and `choose`
+unfoldable pub choosing : Target → List Token → Option (Statement × List Token)
+choosing p xs =
+    chosen_name xs >>= λ n. chosen_terms n.1 >>= λ t.
+    limited_statement (plain.choosing (plain.choice_with p n.0.0 n.0.1 tt t.0.0 t.0.1)) >>= λ s. Some (s, t.1)
+
+-- Target := Term, or Target := choose Word : Sort where Term yield Term
+unfoldable pub effect_statement : List Token → Option (Statement × List Token)
+effect_statement xs =
+    target xs >>= λ p. expect mark.Assign p.1 >>= λ a.
+    choose (skip mark.Choose a.1).0
+    (choosing p.0 (skip mark.Choose a.1).1)
+    (assigned_term p.0 (skip mark.Choose a.1).1)
 
 -- whether a statement begins with one of the words that only a schedule block has
 unfoldable pub begins_in_block : List Token → Bool
@@ -266,7 +294,7 @@ module _ (next : List Token → Option (List Statement × List Token)) where
 
   -- a statement other than an `if`
   unfoldable pub other_statement : Context → List Token → Option (Statement × List Token)
-  other_statement Effect xs = assignment xs
+  other_statement Effect xs = effect_statement xs
   other_statement Block xs = block_statement xs
 
   -- a statement, which begins with `if` or is another

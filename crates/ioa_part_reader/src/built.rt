@@ -1,19 +1,21 @@
 //! Targets and statements within the limit of height, from their parts.
 
-ghost use Rattle.std.specs.Prelude.{◌≡◌, ◌≤◌, IfErr, map};
+ghost use Rattle.std.specs.Prelude.{◌≡◌, ◌≤◌, ◌⊎◌, IfErr, map};
 ghost use Rattle.ioa_source.specs.Heights.{height_limit, heights, statements_height, arms_height};
 ghost use Rattle.ioa_cursor.specs.declared.cursor.Unread.TheVariants.{Memory};
 ghost use Rattle.ioa_terms.specs.PlainTerm as plain;
 ghost use Rattle.ioa_terms.specs.PlainTerm.{terms_of, statements_of, arms_of};
 ghost use Rattle.ioa_terms.specs.View.{term_of, target_of, statement_of, arm_of};
-ghost use Rattle.ioa_part_reader.specs.Built.{built_firing_of};
+ghost use Rattle.ioa_part_reader.specs.Built.{built_choice_of, built_firing_of};
 ghost use Rattle.ioa_part_reader.specs.Reading as spec;
 ghost use Rattle.ioa_values.specs.Outcome.{Matches};
 
 use crate::call::BuiltFiring;
 use ioa_cursor::Unread;
+use ioa_source::Sort;
 use ioa_term_reader::Built;
-use ioa_terms::{Arm, Firing, Statement, Target, Term, Word};
+use ioa_terms::{Arm, Choice, Firing, Statement, Target, Term, Word};
+use std::alloc::Global;
 
 /// Terms one after another.
 pub(crate) type BuiltTerms = Built<Vec<Term>>;
@@ -64,6 +66,42 @@ pub(crate) fn assignment(target: BuiltTarget, value: Built<Term>) -> BuiltStatem
         Statement::Assign(target.into_tree(), value.into_tree()),
         height,
     )
+}
+
+/// A choice of an effect, whose parts are kept with their heights.
+#[derive(Drop)]
+pub(crate) struct BuiltChoice {
+    pub target: BuiltTarget,
+    pub name: Word,
+    pub sort: Sort,
+    pub condition: Built<Term>,
+    pub yields: Built<Term>,
+}
+
+/// A choice as a statement, if it is not too high: else the refusal `deep`.
+#[tactic(auto, unfolding(crate::specs::Reading::limited_statement))]
+pub(crate) fn choosing(
+    alloc: Global,
+    choice: BuiltChoice,
+    deep: Unread,
+) -> Result<BuiltStatement, Unread>
+    ensures meant { Matches Memory (λ b. statement_of b.tree) result
+        (spec.limited_statement (plain.choosing (built_choice_of choice))) }
+    ensures told { IfErr result (λ e. (e ≡ Memory) ⊎ (e ≡ deep)) }
+{
+    let terms_height = choice.condition.height().max(choice.yields.height());
+    let height = choice.target.height().max(terms_height) + 1;
+    let choice = Choice {
+        target: choice.target.into_tree(),
+        name: choice.name,
+        sort: choice.sort,
+        shape: (),
+        condition: choice.condition.into_tree(),
+        yields: choice.yields.into_tree(),
+    };
+    let choice = Statement::Choose(Box::new(alloc, choice)?);
+    let built = Built::within_limit(choice, height, deep)?;
+    Ok(built)
 }
 
 /// An `if`, if it is not too high: else the refusal `deep`.

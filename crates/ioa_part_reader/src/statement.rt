@@ -3,17 +3,21 @@
 ghost use Rattle.std.specs.Prelude.{◌≡◌, map};
 ghost use Rattle.ioa_cursor.specs.Outcome.{Reads};
 ghost use Rattle.ioa_cursor.specs.Reading as cursor;
-ghost use Rattle.ioa_terms.specs.View.{target_of, statement_of, arm_of};
+ghost use Rattle.ioa_terms.specs.SortView.{sort_of};
+ghost use Rattle.ioa_terms.specs.View.{term_of, target_of, statement_of, arm_of};
 ghost use Rattle.ioa_tokens.specs.declared.mark.Mark.TheVariants as mark;
 ghost use Rattle.ioa_part_reader.specs.Reading as spec;
 ghost use Rattle.ioa_part_reader.specs.declared.statement.Context.TheVariants as context;
 
-use crate::built::{self, BuiltArm, BuiltArms, BuiltStatement, BuiltStatements, BuiltTarget};
+use crate::built::{
+    self, BuiltArm, BuiltArms, BuiltChoice, BuiltStatement, BuiltStatements, BuiltTarget,
+};
 use crate::call::{INNER_LIMIT, firing};
+use crate::sort::sort;
 use ioa_cursor::{Tokens, Unread};
-use ioa_source::HEIGHT_LIMIT;
-use ioa_term_reader::{BRACKET_LIMIT, term};
-use ioa_terms::{Statement, Word};
+use ioa_source::{HEIGHT_LIMIT, Sort};
+use ioa_term_reader::{BRACKET_LIMIT, Built, term};
+use ioa_terms::{Statement, Term, Word};
 use ioa_tokens::Mark;
 use std::alloc::Global;
 
@@ -52,6 +56,20 @@ fn target(alloc: Global, tokens: &mut Tokens<'_>) -> Result<BuiltTarget, Unread>
     Ok(built::field(name, field))
 }
 
+/// Term, after `target` and `:=`
+#[tactic(auto, unfolding(crate::specs::Reading::assigned_term, crate::specs::bind))]
+fn assigned_term(
+    alloc: Global,
+    tokens: &mut Tokens<'_>,
+    target: BuiltTarget,
+) -> Result<BuiltStatement, Unread>
+    ensures { Reads (λ b. statement_of b.tree) (spec.assigned_term (target_of target.tree) tokens.old)
+        result tokens.new }
+{
+    let value = term(alloc, tokens, BRACKET_LIMIT)?;
+    Ok(built::assignment(target, value))
+}
+
 /// Target `:=` Term
 #[tactic(auto, unfolding(crate::specs::Reading::assignment, crate::specs::bind))]
 fn assignment(alloc: Global, tokens: &mut Tokens<'_>) -> Result<BuiltStatement, Unread>
@@ -59,8 +77,76 @@ fn assignment(alloc: Global, tokens: &mut Tokens<'_>) -> Result<BuiltStatement, 
 {
     let target = target(alloc, tokens)?;
     tokens.expect(Mark::Assign)?;
-    let value = term(alloc, tokens, BRACKET_LIMIT)?;
-    Ok(built::assignment(target, value))
+    assigned_term(alloc, tokens, target)
+}
+
+/// Word `:` Sort, after `choose`
+#[tactic(auto, unfolding(crate::specs::Reading::chosen_name, crate::specs::bind))]
+fn chosen_name(alloc: Global, tokens: &mut Tokens<'_>) -> Result<(Word, Sort), Unread>
+    ensures { Reads (λ p. (p.0, sort_of p.1)) (spec.chosen_name tokens.old) result tokens.new }
+{
+    let name = tokens.word(alloc)?;
+    tokens.expect(Mark::Colon)?;
+    let sort = sort(alloc, tokens, BRACKET_LIMIT)?;
+    Ok((name, sort))
+}
+
+/// `where` Term `yield` Term
+#[tactic(auto, unfolding(crate::specs::Reading::chosen_terms, crate::specs::bind))]
+fn chosen_terms(
+    alloc: Global,
+    tokens: &mut Tokens<'_>,
+) -> Result<(Built<Term>, Built<Term>), Unread>
+    ensures { Reads (λ p. (term_of p.0.tree, term_of p.1.tree)) (spec.chosen_terms tokens.old) result tokens.new }
+{
+    tokens.expect(Mark::Where)?;
+    let condition = term(alloc, tokens, BRACKET_LIMIT)?;
+    tokens.expect(Mark::Yield)?;
+    let yields = term(alloc, tokens, BRACKET_LIMIT)?;
+    Ok((condition, yields))
+}
+
+/// Word `:` Sort `where` Term `yield` Term, after `target`, `:=` and `choose`. `deep` is the refusal of a
+/// tree that is too high.
+#[tactic(auto, unfolding(crate::specs::Reading::choosing, crate::specs::bind))]
+fn choosing(
+    alloc: Global,
+    tokens: &mut Tokens<'_>,
+    target: BuiltTarget,
+    deep: Unread,
+) -> Result<BuiltStatement, Unread>
+    ensures { Reads (λ b. statement_of b.tree) (spec.choosing (target_of target.tree) tokens.old)
+        result tokens.new }
+{
+    let (name, sort) = chosen_name(alloc, tokens)?;
+    let (condition, yields) = chosen_terms(alloc, tokens)?;
+    let choice = BuiltChoice {
+        target,
+        name,
+        sort,
+        condition,
+        yields,
+    };
+    built::choosing(alloc, choice, deep)
+}
+
+/// Target `:=` Term, or Target `:=` `choose` Word `:` Sort `where` Term `yield` Term. `deep` is the refusal
+/// of a tree that is too high.
+#[tactic(auto, unfolding(crate::specs::Reading::effect_statement, crate::specs::bind, crate::specs::choose))]
+fn effect_statement(
+    alloc: Global,
+    tokens: &mut Tokens<'_>,
+    deep: Unread,
+) -> Result<BuiltStatement, Unread>
+    ensures { Reads (λ b. statement_of b.tree) (spec.effect_statement tokens.old) result tokens.new }
+{
+    let target = target(alloc, tokens)?;
+    tokens.expect(Mark::Assign)?;
+    if tokens.skip(Mark::Choose) {
+        choosing(alloc, tokens, target, deep)
+    } else {
+        assigned_term(alloc, tokens, target)
+    }
 }
 
 /// Whether a statement begins with one of the words that only a schedule block has.
@@ -156,7 +242,7 @@ fn other_statement(
         (spec.other_statement (spec.statements_in context depth) context tokens.old) result tokens.new }
 {
     match context {
-        Context::Effect => assignment(alloc, tokens),
+        Context::Effect => effect_statement(alloc, tokens, deep),
         Context::Block => block_statement(alloc, tokens, depth, deep),
     }
 }

@@ -38,7 +38,7 @@ action_pieces names g (Local a) rest = at_node_pieces names g a rest
 action_pieces names g (Stimulus a) rest = at_node_pieces names g a rest
 
 -- the texts of a list of values
-texts_listed : (names : List (List ℕ)) (vs : List Data) → texts names (items_of vs) ≡ map (text names) vs
+pub texts_listed : (names : List (List ℕ)) (vs : List Data) → texts names (items_of vs) ≡ map (text names) vs
 texts_listed names [] = refl
 texts_listed names (v ∷ vs) = ap (λ ts. text names v ∷ ts) (texts_listed names vs)
 

@@ -65,7 +65,7 @@ unfolding mark_text signs reserved
 brace_loose rest t = loose_touches t mark.CloseBrace refl
 
 -- items behind commas may
-more_loose : (names : List (List ℕ)) (ds : Items) (rest : Pieces) → IsLoose rest → IsLoose (more_pieces names ds rest)
+pub more_loose : (names : List (List ℕ)) (ds : Items) (rest : Pieces) → IsLoose rest → IsLoose (more_pieces names ds rest)
 more_loose names no_items rest loose = loose
 more_loose names (item d ds) rest loose = comma_loose (value_pieces names gap.Spaced d (more_pieces names ds rest))
 
@@ -106,7 +106,7 @@ module _ (names : List (List ℕ)) (words : AllByRecursion IsName names) where
         value_good gap.Joined d (more_pieces names ds rest) tt are.0 (more_loose names ds rest loose) (more_good ds rest are.1 loose good)
 
     -- items behind commas
-    more_good : (ds : Items) (rest : Pieces) → ArePrintable (length names) ds → IsLoose rest → AreLineTokens false rest → AreLineTokens false (more_pieces names ds rest)
+    pub more_good : (ds : Items) (rest : Pieces) → ArePrintable (length names) ds → IsLoose rest → AreLineTokens false rest → AreLineTokens false (more_pieces names ds rest)
     more_good no_items rest are loose good = good
     more_good (item d ds) rest are loose good =
         let first = value_good gap.Spaced d (more_pieces names ds rest) tt are.0 (more_loose names ds rest loose) (more_good ds rest are.1 loose good) in

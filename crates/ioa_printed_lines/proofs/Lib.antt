@@ -7,5 +7,6 @@ pub mod ShapedValues
 pub mod ValuesRead
 pub mod ActionPieces
 pub mod ActionSpellings
+pub mod ChoicePieces
 pub mod LineFeeds
 pub mod LinesRead

@@ -1,4 +1,4 @@
--- A value of a shape of a text can be printed, and so can an action that a node of its system may take.
+-- A value of a shape of a text can be printed, and so can the action of an entry that a node of its system may take.
 use Rattle.std.proofs.Common.{◌≡◌, ℕ, ◌+◌, ◌≤◌, pos, Bool, true, List, [], ◌∷◌, Some, length, sym, subst, arith, true≢false, find, nat_le, nat_lt, ◌&&◌, ⊎_elim, ◌∙◌}
 use Rattle.std.specs.List.{AllByRecursion}
 use Rattle.std.specs.Cmp.Lexicographic.{bytes_decides}
@@ -13,6 +13,7 @@ use Rattle.ioa_actions.specs.ActionParts.{action_arguments, action_name, node_of
 use Rattle.ioa_actions.specs.declared.action.Action.{Action}
 use Rattle.ioa_actions.specs.declared.action.Action.TheVariants.{Send, Receive, Local, Stimulus}
 use Rattle.ioa_system.specs.Systems.{SystemParts}
+use Rattle.ioa_transitions.specs.Entries.{PlainEntry}
 use Rattle.ioa_tokens.specs.Lexeme.{greatest_number}
 use Rattle.ioa_tokens.specs.Written.{IsName}
 use Rattle.ioa_printed_lines.proofs.Printables.{IsPrintable, ArePrintable, ArePrintableEntries, IsPrintableAction, HasOwnName}
@@ -83,9 +84,10 @@ own_name (Receive m i j) n message name node low = tt
 own_name (Local a) n message name node low = record { name = name; no_send = message.0; no_receive = message.1; number = n; node = node; fits = low }
 own_name (Stimulus a) n message name node low = record { name = name; no_send = message.0; no_receive = message.1; number = n; node = node; fits = low }
 
--- an action that a node of the system may take
-pub action_printable : (s : SystemParts) (a : Action) → IsTextSystem s → MayTake s a → IsPrintableAction (length s.names) a
-action_printable s a is may =
+-- the action of an entry that a node of the system may take
+pub action_printable : (s : SystemParts) (e : PlainEntry) → IsTextSystem s → MayTake s e → IsPrintableAction (length s.names) e.action
+action_printable s e is may =
+    let a = e.action in
     let many = length s.names in
     let taken = may.taken in
     let program = found_of (IsTextProgram many) (λ p. int_eq p.node (node_of a)) s.programs taken.program is.programs taken.placed in

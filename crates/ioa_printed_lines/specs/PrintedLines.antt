@@ -7,14 +7,14 @@ use Rattle.ioa_tokens.specs.declared.token.LocatedToken.{LocatedToken}
 use Rattle.ioa_operators.specs.Shapes.{PlainShape}
 use Rattle.ioa_value_reader.specs.Grammar.{SpellsValue}
 use Rattle.ioa_value_reader.specs.Reading.{read_value}
-use Rattle.ioa_actions.specs.ActionText.{action_text}
-use Rattle.ioa_actions.specs.declared.action.Action.{Action}
+use Rattle.ioa_actions.specs.ActionText.{entry_text}
+use Rattle.ioa_transitions.specs.Entries.{PlainEntry}
 
--- `k action`, one line an action, counted from k
-abbrev pub action_lines : List (List ℕ) → ℕ → List Action → List ℕ
-action_lines names k [] = []
-action_lines names k (a ∷ more) =
-    (decimal k ++ (codes " " ++ (action_text names a ++ codes "\n"))) ++ action_lines names (k + 1) more
+-- `k entry`, one line an entry, counted from k
+abbrev pub printed_lines : List (List ℕ) → ℕ → List PlainEntry → List ℕ
+printed_lines names k [] = []
+printed_lines names k (e ∷ more) =
+    (decimal k ++ (codes " " ++ (entry_text names e.action e.chosen ++ codes "\n"))) ++ printed_lines names (k + 1) more
 
 -- a text is cut into tokens that spell a value and nothing more, and for its shape that value is read from them
 pub record IsReadBack (names : List (List ℕ)) (s : PlainShape) (v : Data) (text : List ℕ) : Type 0 where

@@ -1,6 +1,6 @@
--- The systems that texts have, as far as printing and reading of their actions go, and the actions that their nodes may
+-- The systems that texts have, as far as printing and reading of their entries go, and the entries that their nodes may
 -- take (profile).
-use Rattle.std.specs.Prelude.{◌≡◌, ◌≢◌, ◌+◌, ◌≤◌, ℕ, pos, true, nat_eq, List, length}
+use Rattle.std.specs.Prelude.{◌≡◌, ◌≢◌, ◌+◌, ◌<◌, ◌≤◌, ℕ, pos, true, nat_eq, List, length}
 use Rattle.std.specs.List.{AllByRecursion, IsDistinct}
 use lib.Pointwise.{pointwise}
 use Rattle.ioa_values.specs.Canonical.{AllCanonical}
@@ -15,6 +15,7 @@ use Rattle.ioa_actions.specs.declared.action.Action.{Action}
 use Rattle.ioa_actions.specs.declared.action.Action.TheVariants.{Send, Receive, Local, Stimulus}
 use Rattle.ioa_system.specs.Parts.{Parts, PlainRule}
 use Rattle.ioa_system.specs.Systems.{SystemParts}
+use Rattle.ioa_transitions.specs.Entries.{PlainEntry}
 use Rattle.ioa_lines.specs.Lines.{IsActionOf}
 
 -- names of constants: words that are neither reserved nor left out, none of them twice
@@ -85,10 +86,19 @@ IsNoMessage (Receive m i j) = Unit {0}
 IsNoMessage (Local a) = (a.name ≢ send_name) × (a.name ≢ receive_name)
 IsNoMessage (Stimulus a) = (a.name ≢ send_name) × (a.name ≢ receive_name)
 
--- an action that a node of the system may take: it is one of the system, sends and receives alone have the names of
--- messages, numbers lie in 64 bits, and sets and maps ascend
-pub record MayTake (s : SystemParts) (a : Action) : Type 0 where
-  pub taken : IsActionOf s a
-  pub message : IsNoMessage a
-  pub bounded : AllByRecursion IsBounded (action_arguments a)
-  pub canonical : AllCanonical (action_arguments a)
+-- a value that an effect may choose in a text with so many constants: a number in 64 bits, a truth value, or one of
+-- these constants
+abbrev pub MayChoose : ℕ → Data → Type 0
+MayChoose many (number z) = fits z ≡ true
+MayChoose many (truth b) = Unit {0}
+MayChoose many (constant k) = k < many
+MayChoose many _ = ⊥
+
+-- an entry that a node of the system may take: its action is one of the system, sends and receives alone have the names
+-- of messages, numbers lie in 64 bits, and sets and maps ascend; and its effect may choose the values that it chose
+pub record MayTake (s : SystemParts) (e : PlainEntry) : Type 0 where
+  pub taken : IsActionOf s e.action
+  pub message : IsNoMessage e.action
+  pub bounded : AllByRecursion IsBounded (action_arguments e.action)
+  pub canonical : AllCanonical (action_arguments e.action)
+  pub chosen : AllByRecursion (MayChoose (length s.names)) e.chosen

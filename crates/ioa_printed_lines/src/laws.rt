@@ -7,10 +7,10 @@ ghost use Rattle.ioa_values.specs.Data.{Data};
 ghost use Rattle.ioa_values.specs.Text.{text};
 ghost use Rattle.ioa_tokens.specs.Lexeme.{greatest_number};
 ghost use Rattle.ioa_operators.specs.Shapes.{PlainShape, has_shape, wide_shape};
-ghost use Rattle.ioa_actions.specs.declared.action.Action.{Action};
 ghost use Rattle.ioa_system.specs.Systems.{SystemParts};
+ghost use Rattle.ioa_transitions.specs.Entries.{PlainEntry};
 ghost use Rattle.ioa_lines.specs.Lines.{Lines, lines_answer};
-ghost use Rattle.ioa_printed_lines.specs.PrintedLines.{IsReadBack, action_lines};
+ghost use Rattle.ioa_printed_lines.specs.PrintedLines.{IsReadBack, printed_lines};
 ghost use Rattle.ioa_printed_lines.specs.TextSystems.{AreConstantNames, IsBounded, IsTextShape};
 ghost use Rattle.ioa_printed_lines.specs.TextSystems.{IsTextSystem, MayTake};
 
@@ -21,13 +21,14 @@ pub fn printed_value_law()
         IsReadBack names s v (text names v) }
 {}
 
-/// The printed schedule of a text's system is read back, if each action may be taken. Its lines spell the actions that
-/// were printed, one by one, and these are read from it. That the actions of a run may be taken is not proved here.
+/// The printed schedule of a text's system is read back, if each entry may be taken. Its lines spell the entries that
+/// were printed, one by one, with the values that their effects chose, and these are read from it. That the entries of
+/// a run may be taken is not proved here.
 pub fn printed_lines_law()
-    ensures spelled { (s : SystemParts) (k : ℕ) (actions : List Action) → IsTextSystem s →
-        AllByRecursion (MayTake s) actions → k + length actions ≤ greatest_number →
-        Lines s (action_lines s.names k actions) actions }
-    ensures read { (s : SystemParts) (k : ℕ) (actions : List Action) → IsTextSystem s →
-        AllByRecursion (MayTake s) actions → k + length actions ≤ greatest_number →
-        lines_answer s (action_lines s.names k actions) ≡ Ok actions }
+    ensures spelled { (s : SystemParts) (k : ℕ) (entries : List PlainEntry) → IsTextSystem s →
+        AllByRecursion (MayTake s) entries → k + length entries ≤ greatest_number →
+        Lines s (printed_lines s.names k entries) entries }
+    ensures read { (s : SystemParts) (k : ℕ) (entries : List PlainEntry) → IsTextSystem s →
+        AllByRecursion (MayTake s) entries → k + length entries ≤ greatest_number →
+        lines_answer s (printed_lines s.names k entries) ≡ Ok entries }
 {}

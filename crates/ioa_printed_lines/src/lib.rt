@@ -1,4 +1,4 @@
-//! Laws of lines that a run prints: they are read back as the actions that were printed. It has no code.
+//! Laws of lines that a run prints: they are read back as the entries that were printed. It has no code.
 //!
 //! **A crate of its own**, since it needs the texts and the reading of them, and nothing waits for it.
 //!

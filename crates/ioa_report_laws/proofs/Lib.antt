@@ -1,3 +1,3 @@
-pub mod TakenActions
+pub mod TakenEntries
 pub mod Schedules
 pub mod PrintedRuns

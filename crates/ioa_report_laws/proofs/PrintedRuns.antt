@@ -11,5 +11,5 @@ use Rattle.ioa_runtime_values.specs.RuntimeValues.{HasRuntimeValues}
 few_steps : (told steps : ℕ) → told ≡ steps → told ≤ GREATEST_STEPS → steps ≤ greatest_number
 few_steps told steps same within = omega (arith, same, within)
 
-pub reported : (text : List ℕ) (s : SystemParts) (r : Record) (told steps : ℕ) → told ≡ steps → told ≤ GREATEST_STEPS → AllByRecursion (λ e. HasRuntimeValues e.action) r.schedule → IsRunOfText text s steps r → IsReported text s r
+pub reported : (text : List ℕ) (s : SystemParts) (r : Record) (told steps : ℕ) → told ≡ steps → told ≤ GREATEST_STEPS → AllByRecursion HasRuntimeValues r.schedule → IsRunOfText text s steps r → IsReported text s r
 reported text s r told steps same within values run = record { limit = steps; run = run; low = few_steps told steps same within; values = values }

@@ -25,5 +25,5 @@ pub record IsReported (text : List ℕ) (s : SystemParts) (r : Record) : Type 0 
   pub run : IsRunOfText text s limit r
   -- the numbers of its lines are tokens
   pub low : limit ≤ greatest_number
-  -- the values of its actions are values of the runtime, which `Value` keeps of each
-  pub values : AllByRecursion (λ e. HasRuntimeValues e.action) r.schedule
+  -- the values of its actions and of its choices are values of the runtime, which `Value` keeps of each
+  pub values : AllByRecursion HasRuntimeValues r.schedule

@@ -4,9 +4,9 @@
 //!
 //! **Must not know**: how a run is made.
 //!
-//! **Laws**: `actions_law`, `printed_run_law`, `report_law`.
+//! **Laws**: `entries_law`, `printed_run_law`, `report_law`.
 #![tactic(auto)]
 
 mod laws;
 
-pub use laws::{actions_law, printed_run_law, report_law};
+pub use laws::{entries_law, printed_run_law, report_law};

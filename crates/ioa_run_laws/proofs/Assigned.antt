@@ -1,4 +1,4 @@
--- What an assignment gives its variable has the variable's shape, but for negative numbers.
+-- What an assignment or a choice gives its variable has the variable's shape, but for negative numbers.
 use Rattle.std.proofs.Common.{◌≡◌, ℕ, zero, suc, true, not, ◌&&◌, List, [], ◌∷◌, Option, Some, None, refl, sym, ap, subst, ◌∙◌, slice_get, slice_set}
 use Rattle.std.specs.Option.{IfSome, option_and_then, option_map}
 use Rattle.std.proofs.lemmas.Bool.{and_parts}
@@ -18,6 +18,7 @@ use Rattle.ioa_terms.proofs.Negatives.{has_but_for_signs}
 use Rattle.ioa_terms.proofs.ShapesKept.{Has, function_has, shape_in_terms_has}
 use Rattle.ioa_terms.proofs.Sound.{value_has}
 use Rattle.ioa_sorts.specs.SortedStatements.{HoldsShape}
+use Rattle.ioa_run_laws.specs.WellSorted.{given_by_choice}
 
 -- a value that has a shape has it but for signs
 pub widened : (s : PlainShape) (v : Data) → Has s v → Has (wide_shape s) v
@@ -101,10 +102,22 @@ module _ (names : NameShapes) (e : Bindings) (g : IsShaped names e) where
       (function_has (updated {k = keys} {v = s}) (m ∷ i ∷ v ∷ []) (subst (λ (z : PlainShape). Has z m) same (shape_in_terms_has d m l), (h, (k, tt))))
       (λ n p. terms_widened d n (subst (λ (z : PlainShape). Has z n) (sym same) p))
 
+  -- what a choice gives a variable
+  pub given_has : (variables : NameShapes) → ((x : List ℕ) (d : PlainShape) → shape_named (Word x) variables ≡ Some d → shape_named (Word x) names ≡ Some d) → (p : PlainTarget ℕ Callee Shape) (s : PlainShape) (v : Data) →
+      HoldsShape variables names p s → Has s v → IfSome (given_by_choice p v e) (Has (wide_shape (target_shape p)))
+  given_has variables declared (variable x at d) s v h k = terms_widened d v (subst (λ (z : PlainShape). Has z v) h.1 k)
+  given_has variables declared (at_key x at d u) s v h k =
+      and_then_holds (Has h.0) (Has (wide_shape d)) (λ i. option_and_then (updated_map i v) (lookup (Word x) e)) (value u e) (term_has u h.0 h.3)
+      (λ i l. and_then_holds (Has d) (Has (wide_shape d)) (updated_map i v) (lookup (Word x) e) (variable_has x d (declared x d h.1))
+      (λ old n. map_updated d h.0 s i v old h.2 l k n))
+  given_has variables declared (at_field x at d w) s v h k =
+      and_then_holds (Has d) (Has (wide_shape d)) (with_field d w v) (lookup (Word x) e) (variable_has x d (declared x d h.0)) (λ old n. field_replaced d w s v old h.1 k n)
+
+  -- and what an assignment does
   pub assigned_has : (variables : NameShapes) → ((x : List ℕ) (d : PlainShape) → shape_named (Word x) variables ≡ Some d → shape_named (Word x) names ≡ Some d) → (p : PlainTarget ℕ Callee Shape) (t : PlainTerm ℕ Callee Shape) (s : PlainShape) →
       HoldsShape variables names p s → HasShape names t s → IfSome (assignment_value p t e) (Has (wide_shape (target_shape p)))
   assigned_has variables declared (variable x at d) t s h k =
-      if_mapped (Has s) (Has (wide_shape d)) (value t e) (term_has t s k) (λ v l. terms_widened d v (subst (λ (z : PlainShape). Has z v) h.1 l))
+      if_mapped (Has s) (Has (wide_shape d)) (value t e) (term_has t s k) (λ v l. given_has variables declared (variable x at d) s v h l)
   assigned_has variables declared (at_key x at d u) t s h k =
       and_then_holds (Has h.0) (Has (wide_shape d)) (λ i. option_and_then (λ v. option_and_then (updated_map i v) (lookup (Word x) e)) (value t e)) (value u e) (term_has u h.0 h.3)
       (λ i l. and_then_holds (Has s) (Has (wide_shape d)) (λ v. option_and_then (updated_map i v) (lookup (Word x) e)) (value t e) (term_has t s k)
@@ -112,5 +125,4 @@ module _ (names : NameShapes) (e : Bindings) (g : IsShaped names e) where
       (λ old n. map_updated d h.0 s i v old h.2 l m n)))
   assigned_has variables declared (at_field x at d w) t s h k =
       and_then_holds (Has s) (Has (wide_shape d)) (λ v. option_and_then (with_field d w v) (lookup (Word x) e)) (value t e) (term_has t s k)
-      (λ v m. and_then_holds (Has d) (Has (wide_shape d)) (with_field d w v) (lookup (Word x) e) (variable_has x d (declared x d h.0))
-      (λ old n. field_replaced d w s v old h.1 m n))
+      (λ v m. given_has variables declared (at_field x at d w) s v h m)

@@ -10,7 +10,7 @@ pub mod Starts
 pub mod DeclaredTypes
 pub mod Messages
 pub mod Runs
-pub mod NothingChosen
+pub mod ChosenValues
 pub mod Assigned
 pub mod Evaluated
 pub mod Received

@@ -116,6 +116,6 @@ step_shaped x s en c d h shaped step =
     made = is_rule h.types c.program (is_accepted x s h c.program shaped.program) r step.mine.present
 
     left_shaped : IsShaped names step.reached
-    left_shaped = effect_shaped (take (length b.variables) names) names (λ y t found. found_in_front y (length b.variables) names t found)
+    left_shaped = effect_shaped h.types.types (take (length b.variables) names) names (λ y t found. found_in_front y (length b.variables) names t found)
         made.1.written.effect r.transition.effect (left (rule_bindings guard_or_effect r en.action c) (given en.chosen)) (left step.reached (given [])) made.1.transition.effect
         (rule_valued x s h c shaped guard_or_effect r en.action step.sorts).shaped step.effect

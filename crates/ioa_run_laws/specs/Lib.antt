@@ -1,6 +1,7 @@
 -- what the contracts of this crate cite
 pub mod Parts
 pub mod Shaped
+pub mod SimpleValues
 pub mod WellSorted
 pub mod Awaited
 pub mod BlockStates

@@ -2,17 +2,20 @@
 -- where the sort says Nat is no wrong sort: an assignment of it, or an argument, is no step.
 use Rattle.std.specs.Prelude.{◌≡◌, ℕ, List, [], Option, Some, None, IfOk, slice_get}
 use Rattle.std.specs.List.{AllByRecursion, AllZip, Contains}
-use Rattle.std.specs.Option.{option_map}
+use Rattle.std.specs.Option.{option_and_then, option_map}
 use Rattle.ioa_values.specs.Data.{Data}
-use Rattle.ioa_operators.specs.Shapes.{PlainShape, truths, maps, wide_shape}
+use Rattle.ioa_operators.specs.Shapes.{PlainShape, truths, maps, wide_shape, with_field}
 use Rattle.ioa_operators.specs.declared.shape.Shape.{Shape}
 use Rattle.ioa_terms.specs.declared.callee.Callee.{Callee}
-use Rattle.ioa_terms.specs.Bindings.{Bindings, names_of}
+use Rattle.ioa_terms.specs.declared.name.Name.TheVariants.{Word}
+use Rattle.ioa_terms.specs.Bindings.{Bindings, lookup, names_of}
+use Rattle.ioa_terms.specs.Meaning.{value}
 use Rattle.ioa_terms.specs.Choices.{Source, Left, left}
 use Rattle.ioa_terms.specs.Performance.{after_one, assignment_value, target_name, target_shape}
+use Rattle.ioa_terms.specs.Performance.{updated_map, value_chosen, with_chosen}
 use Rattle.ioa_terms.specs.PlainTerm.{PlainTerm, PlainTarget, variable, at_key, at_field}
 use Rattle.ioa_terms.specs.PlainTerm.{PlainStatement, PlainStatements, PlainArms}
-use Rattle.ioa_terms.specs.PlainTerm.{assign, branch, loop, fire, choosing}
+use Rattle.ioa_terms.specs.PlainTerm.{PlainChoice, assign, branch, loop, fire, choosing}
 use Rattle.ioa_terms.specs.PlainTerm.{no_statements, statement, no_arms, arm, statements_of}
 use Rattle.ioa_terms.specs.Sorted.{field_shape, shape_in_terms, shape_named}
 use Rattle.ioa_actions.specs.ActionParts.{action_arguments}
@@ -56,15 +59,39 @@ pub record IsAssignmentWellSorted (e : Bindings) (p : PlainTarget ℕ Callee Sha
   pub assigned : HasShapeThroughout e t shape
   pub given : IsOfShape (wide_shape (target_shape p)) (assignment_value p t e)
 
+-- what a choice gives its variable with a chosen value: the value; the map with it at the key; or the tuple with it as
+-- the field
+abbrev pub given_by_choice : PlainTarget ℕ Callee Shape → Data → Bindings → Option Data
+given_by_choice (variable x at d) v e = Some v
+given_by_choice (at_key x at d k) v e =
+    option_and_then (λ i. option_and_then (updated_map i v) (lookup (Word x) e)) (value k e)
+given_by_choice (at_field x at d w) v e = option_and_then (with_field d w v) (lookup (Word x) e)
+
+-- a value that a choice takes: the condition that reads it, under its name, is a truth value throughout; what it gives
+-- the variable, if anything, has the variable's shape, but for negative numbers
+pub record IsTakenWellSorted (e : Bindings) (c : PlainChoice ℕ Callee Shape) (v : Data) : Type 0 where
+  pub condition : HasShapeThroughout (with_chosen c.name v e) c.condition truths
+  pub given : IsOfShape (wide_shape (target_shape c.target)) (given_by_choice c.target v e)
+
+-- a choice: its variable has a value of the declared shape, the target takes the choice's shape, in which naturals
+-- count as integers, and the term that yields a value has that shape throughout; so it is with what it takes, if it
+-- takes a value
+pub record IsChoiceWellSorted (c : PlainChoice ℕ Callee Shape) (l : Left) : Type 0 where
+  pub before : HasValueOf l.bindings (target_name c.target) (target_shape c.target)
+  pub target : TargetTakes l.bindings c.target (shape_in_terms c.shape)
+  pub yields : HasShapeThroughout l.bindings c.yields (shape_in_terms c.shape)
+  pub taken : IfOk (value_chosen c.shape (value c.yields l.bindings) l.source)
+      (λ v. IsTakenWellSorted l.bindings c v.value)
+
 abbrev mutual
-  -- what a statement assigns, the key included, has its shape throughout; no effect has a `while` or a `fire`, and no
-  -- checked text has a choice
+  -- what a statement assigns or chooses, the key included, has its shape throughout; no effect has a `while` or a
+  -- `fire`
   pub IsWellSorted : PlainStatement ℕ Callee Shape → Left → Type 0
   IsWellSorted (assign p t) l = IsAssignmentWellSorted l.bindings p t
   IsWellSorted (branch arms rest) l = AreArmsWellSorted arms l × AreWellSorted rest l
   IsWellSorted (loop t body) l = ⊥
   IsWellSorted (fire f) l = ⊥
-  IsWellSorted (choosing c) l = ⊥
+  IsWellSorted (choosing c) l = IsChoiceWellSorted c l
 
   -- what an arm tests is a truth value throughout, and its statements are well sorted
   pub AreArmsWellSorted : PlainArms ℕ Callee Shape → Left → Type 0

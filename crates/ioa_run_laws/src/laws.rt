@@ -1,6 +1,6 @@
 //! Laws of systems that the check accepted: what functions ensure that do nothing.
 
-ghost use Rattle.std.specs.Prelude.{◌≡◌, true, ℕ, ℤ, List, [], None, Some, is_some, map};
+ghost use Rattle.std.specs.Prelude.{◌≡◌, true, ℕ, ℤ, List, [], None, Some, is_some, length, map};
 ghost use Rattle.std.specs.List.{AllByRecursion, AllZip, Contains};
 ghost use Rattle.ioa_values.specs.Data.{Data, number};
 ghost use Rattle.ioa_operators.specs.Shapes.{PlainShape};
@@ -35,6 +35,7 @@ ghost use Rattle.ioa_run_laws.specs.Inboxes.{block_reads, inbox_term};
 ghost use Rattle.ioa_run_laws.specs.Invariants.{IsWellRead};
 ghost use Rattle.ioa_run_laws.specs.Parts.{HasShapeThroughout, IsOfShape, parts_of, sum_of_truth};
 ghost use Rattle.ioa_run_laws.specs.Shaped.{FitsVariable, FitInboxes, IsShapedNode, AreShaped};
+ghost use Rattle.ioa_run_laws.specs.SimpleValues.{AreSimpleValues};
 ghost use Rattle.ioa_run_laws.specs.WellSorted.{IsNodeWellSorted, AreConfsWellSorted};
 
 /// At the start of an accepted system each value at a node has its declared shape. A step of a node keeps the shapes,
@@ -54,9 +55,10 @@ pub fn shapes_kept_law()
 /// each part of each term that a run evaluates has its shape, whether it has a value or not: each name has a value of
 /// its shape, and each operator, function, display and field has parts of the shapes that it takes, at any depth. As a
 /// whole, each guard, condition and test is a truth value; each term that is assigned has the shape that its target
-/// takes, and each key that of the map's keys; each argument of a firing has the shape of the entry's, and so has each
-/// constant of an entry. What a variable is given has its sort, but for negative numbers. So it is after each replay
-/// from the start.
+/// takes, and each key that of the map's keys; each term that yields a value to choose has the shape of the choice, and
+/// its condition is read where the chosen name has a value of that shape; each argument of a firing has the shape of
+/// the entry's, and so has each constant of an entry. What a variable is given has its sort, but for negative numbers.
+/// So it is after each replay from the start.
 ///
 /// What such a term gives, if anything, has the shape, and each part of the term is such a term. `true + 1`, which has
 /// no value, is none.
@@ -71,6 +73,18 @@ pub fn well_sorted_law()
         AllByRecursion (λ u. (z : PlainShape) × HasShapeThroughout e u z) (parts_of t) }
     ensures sum { (e : Bindings) → (value sum_of_truth e ≡ None)
         × ((s : PlainShape) → HasShapeThroughout e sum_of_truth s → ⊥) }
+{}
+
+/// Each value that an effect of an accepted system chooses is simple: a number, a truth value, or a constant of the
+/// text. So it is in each entry of an execution from the start (Lynch 8.1), and of a replay, whoever gave the values:
+/// none is of another sort than its choice.
+pub fn chosen_law()
+    ensures execution { (x : SourceText) (s : SystemParts) (entries : List PlainEntry) (cs : List Conf) →
+        IsSystemOf x s → IsExecution (IsJointStep IsStep) (start s) entries cs →
+        AllByRecursion (λ e. AreSimpleValues (length s.names) e.chosen) entries }
+    ensures replay { (x : SourceText) (s : SystemParts) (entries : List PlainEntry) (cs : List Conf) →
+        IsSystemOf x s → replay entries (start s) ≡ Some cs →
+        AllByRecursion (λ e. AreSimpleValues (length s.names) e.chosen) entries }
 {}
 
 /// A node of an accepted system has a rule for each message on a channel to it, which takes the message whatever the

@@ -6,11 +6,11 @@
 //!
 //! **Must not know**: systems, and runs.
 //!
-//! **Laws**: `action_values_law`, `bounded_law`, `schedule_values_law`.
+//! **Laws**: `action_values_law`, `bounded_law`, `entry_values_law`, `schedule_values_law`.
 #![tactic(auto)]
 
 mod actions;
 mod values;
 
-pub use actions::{action_values_law, schedule_values_law};
+pub use actions::{action_values_law, entry_values_law, schedule_values_law};
 pub use values::bounded_law;

@@ -1,11 +1,10 @@
 -- Schedules that are given as lines, against a system (profile).
-use Rattle.std.specs.Prelude.{◌≡◌, ⊤, ℕ, ◌+◌, Bool, true, false, List, [], ◌∷◌, ◌++◌, Some, Result, Ok, Err, codes, map}
+use Rattle.std.specs.Prelude.{◌≡◌, ⊤, ℕ, ◌+◌, Bool, true, false, List, [], ◌∷◌, ◌++◌, Some, Result, Ok, Err, codes}
 use Rattle.std.specs.Prelude.{slice_get, take}
 use Rattle.std.specs.Fmt.{decimal}
-use Rattle.ioa_actions.specs.declared.action.Action.{Action}
 use Rattle.ioa_actions.specs.declared.fault.StepFault.{StepFault}
 use Rattle.ioa_actions.specs.declared.fault.StepFault.TheVariants as step
-use Rattle.ioa_transitions.specs.Entries.{entry_of}
+use Rattle.ioa_transitions.specs.Entries.{PlainEntry}
 use Rattle.ioa_system.specs.Systems.{SystemParts}
 use Rattle.ioa_compose.specs.declared.configuration.Conf.{Conf}
 use Rattle.ioa_compose.specs.Composition.{joint_answer}
@@ -15,17 +14,18 @@ use Rattle.ioa_lines.specs.Lines.{IsBadLine, Lines, lines_answer, lines_of}
 use Rattle.ioa_lines.specs.declared.fault.LineFault.{LineFault}
 use Rattle.ioa_lines.specs.declared.fault.LineFault.TheVariants as line
 use Rattle.ioa_schedule_check.specs.declared.fault.ScheduleFault.{ScheduleFault}
-use Rattle.ioa_schedule_check.specs.declared.fault.ScheduleFault.TheVariants.{Undefined, Range, Memory, NotStep, BadLine}
+use Rattle.ioa_schedule_check.specs.declared.fault.ScheduleFault.TheVariants.{Undefined, Range, Memory, NotStep}
+use Rattle.ioa_schedule_check.specs.declared.fault.ScheduleFault.TheVariants.{BadLine}
 
 -- the lines of a text spell a schedule of a system, and the schedule is an execution: it replays from the start (Lynch
 -- 8.1)
 pub record IsExecutionSpelled (s : SystemParts) (text : List ℕ) : Type 0 where
-  pub actions : List Action
-  pub spelled : Lines s text actions
+  pub entries : List PlainEntry
+  pub spelled : Lines s text entries
   pub states : List Conf
-  pub replayed : replay (map entry_of actions) (start s) ≡ Some states
+  pub replayed : replay entries (start s) ≡ Some states
 
--- whether a fault says that an action is no step, and not that the runtime can't tell
+-- whether a fault says that an entry is no step, and not that the runtime can't tell
 abbrev pub is_no_step : StepFault → Bool
 is_no_step step.Undefined = false
 is_no_step step.Range = false
@@ -35,8 +35,8 @@ is_no_step step.NotMine = true
 is_no_step step.NoChannel = true
 is_no_step step.NoChoice = true
 
--- why the action at a place is no step: it is not enabled, not in a signature, of a component that is not there, or its
--- effect has a choice without a value; or the runtime can't tell
+-- why the entry at a place is no step: its action is not enabled, not in a signature, or of a component that is not
+-- there, or its values are not those that the effect may choose; or the runtime can't tell
 abbrev pub fault_at : ℕ → StepFault → ScheduleFault
 fault_at k step.Undefined = Undefined k
 fault_at k step.Range = Range k
@@ -57,44 +57,44 @@ abbrev pub after_step_at : ℕ → (List Conf → Result (Unit {0}) ScheduleFaul
 after_step_at k steps (Ok next) = steps next
 after_step_at k steps (Err f) = Err (fault_at k f)
 
--- the steps by actions one after another, the first of which has this place: done, or the fault of the first that is
+-- the steps by entries one after another, the first of which has this place: done, or the fault of the first that is
 -- no step
-abbrev pub steps_answer : ℕ → List Action → List Conf → Result (Unit {0}) ScheduleFault
+abbrev pub steps_answer : ℕ → List PlainEntry → List Conf → Result (Unit {0}) ScheduleFault
 steps_answer k [] cs = Ok tt
-steps_answer k (a ∷ more) cs = after_step_at k (steps_answer (k + 1) more) (joint_answer (entry_of a) cs)
+steps_answer k (e ∷ more) cs = after_step_at k (steps_answer (k + 1) more) (joint_answer e cs)
 
--- the steps by the actions that lines spell, or the fault of the first line that spells none
-abbrev pub steps_of_lines : ℕ → List Conf → Result (List Action) LineFault → Result (Unit {0}) ScheduleFault
-steps_of_lines k cs (Ok actions) = steps_answer k actions cs
+-- the steps by the entries that lines spell, or the fault of the first line that spells none
+abbrev pub steps_of_lines : ℕ → List Conf → Result (List PlainEntry) LineFault → Result (Unit {0}) ScheduleFault
+steps_of_lines k cs (Ok entries) = steps_answer k entries cs
 steps_of_lines k cs (Err f) = Err (fault_of_line f)
 
--- a schedule that is given as lines: an execution, or the fault of the first line that spells no action; if each does,
--- the fault of the first action that is no step
+-- a schedule that is given as lines: an execution, or the fault of the first line that spells no entry; if each does,
+-- the fault of the first entry that is no step
 unfoldable pub schedule_answer : SystemParts → List ℕ → Result (Unit {0}) ScheduleFault
 schedule_answer s text = steps_of_lines 0 (start s) (lines_answer s text)
 
--- the fault of an action, if each line spells one; else that of the first line that spells none
-abbrev pub fault_or_line : ScheduleFault → Result (List Action) LineFault → ScheduleFault
-fault_or_line f (Ok actions) = f
+-- the fault of an entry, if each line spells one; else that of the first line that spells none
+abbrev pub fault_or_line : ScheduleFault → Result (List PlainEntry) LineFault → ScheduleFault
+fault_or_line f (Ok entries) = f
 fault_or_line f (Err e) = fault_of_line e
 
--- whether each line spells an action
-abbrev pub all_read : Result (List Action) LineFault → Result (Unit {0}) LineFault
-all_read (Ok actions) = Ok tt
+-- whether each line spells an entry
+abbrev pub all_read : Result (List PlainEntry) LineFault → Result (Unit {0}) LineFault
+all_read (Ok entries) = Ok tt
 all_read (Err e) = Err e
 
--- the lines spell a schedule; its first actions, as many as the place says, replay from the start, and the joint step
+-- the lines spell a schedule; its first entries, as many as the place says, replay from the start, and the joint step
 -- of the next one has this fault (Lynch 8.1)
 pub record StopsAtStep (s : SystemParts) (text : List ℕ) (k : ℕ) (f : StepFault) : Type 0 where
-  pub actions : List Action
-  pub spelled : Lines s text actions
+  pub entries : List PlainEntry
+  pub spelled : Lines s text entries
   pub states : List Conf
-  pub before : replay (map entry_of (take k actions)) (start s) ≡ Some states
-  pub action : Action
-  pub next : slice_get actions k ≡ Some action
-  pub fault : joint_answer (entry_of action) states ≡ Err f
+  pub before : replay (take k entries) (start s) ≡ Some states
+  pub entry : PlainEntry
+  pub next : slice_get entries k ≡ Some entry
+  pub fault : joint_answer entry states ≡ Err f
 
--- what a refusal says: a line in front of which so many spell actions spells none; or each spells one, and that of the
+-- what a refusal says: a line in front of which so many spell entries spells none; or each spells one, and that of the
 -- place is no step, or one of which the runtime can't tell; want of memory says nothing
 abbrev pub IsRefusedAs : ScheduleFault → SystemParts → List ℕ → Type 0
 IsRefusedAs (Undefined k) s text = StopsAtStep s text k step.Undefined

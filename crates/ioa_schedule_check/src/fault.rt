@@ -10,7 +10,7 @@ use std::fmt;
 use thiserror::Error;
 
 /// Why the lines of a schedule are no execution of a system (profile). A number counts the lines that have tokens, from
-/// 0, and with them the actions.
+/// 0, and with them the entries.
 #[derive(Clone, Copy, Debug, PartialEq, Eq, Error)]
 pub enum ScheduleFault {
     /// `Undefined` (1): a part of the entry's condition, of the guard or of the effect has no value.
@@ -19,9 +19,11 @@ pub enum ScheduleFault {
     Range(usize),
     /// `Memory` (3): memory ran out.
     Memory,
-    /// `NotStep` (60): the action is no step from the state that the actions before it leave.
+    /// `NotStep` (60): the entry is no step from the state that those before it leave. Its action is none, or its
+    /// effect may not choose the values behind `choose`.
     NotStep(usize),
-    /// `BadLine` (61): the line spells no action of the system.
+    /// `BadLine` (61): the line spells no action of the system, or behind `choose` anything but numbers, truth values
+    /// and constants.
     BadLine(usize),
 }
 
@@ -78,7 +80,7 @@ impl<T: Drop> From<AllocFailed<T>> for ScheduleFault {
     }
 }
 
-/// The fault of a step that the action at a place is not: four faults say that it is no step.
+/// The fault of a step that the entry at a place is not: four faults say that it is no step.
 pub(crate) fn fault_at(place: usize, fault: StepFault) -> ScheduleFault
     ensures { result ≡ spec.fault_at place fault }
 {

@@ -1,5 +1,5 @@
-//! Whether the lines of a schedule are an execution of a system: each line is read, and its action is taken as a step
-//! of the composition.
+//! Whether the lines of a schedule are an execution of a system: each line is read, and its entry, an action and what
+//! its effect chose, is taken as a step of the composition.
 //!
 //! **A crate of its own**, since it alone joins lines and steps.
 //!

@@ -2,7 +2,9 @@
 pub mod Channels
 pub mod Going
 pub mod Jsons
+pub mod Passed
 pub mod Passing
 pub mod Puts
+pub mod SomeChosen
 pub mod Tags
 pub mod Waiting

@@ -19,7 +19,7 @@ head_words f = OPENING.now ++ (box_words f ++ (codes ">\n" ++ (LOOKS.now ++ back
 abbrev pub drawing : Frame → SystemParts → List (Option ℕ) → List Verdict → List PlainEntry → List ℕ
 drawing f s ps ws entries =
     head_words f ++ (lanes f s.programs ++ (ticks f f.count ++ (breaks f 0 s.invariants ws
-    ++ (arrows f s.names ps 0 entries ++ (dots f s.names 0 entries ++ codes "</svg>\n")))))
+    ++ (arrows f s.names entries ps 0 entries ++ (dots f s.names 0 entries ++ codes "</svg>\n")))))
 
 -- the diagram of a run, if these are the partners of its actions and these the verdicts on it: the line of each node,
 -- numbers above the actions, what is said of each invariant, each message from its send to its receive, and a dot for

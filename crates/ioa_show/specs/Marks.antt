@@ -4,7 +4,7 @@ use Rattle.std.specs.Prelude.{ℕ, zero, suc, ℤ, ◌+◌, ◌-◌, ◌*◌, �
 use Rattle.std.specs.Prelude.{List, [], ◌∷◌, ◌++◌, codes}
 use Rattle.std.specs.Fmt.{decimal, signed_decimal}
 use Rattle.ioa_actions.specs.ActionParts.{node_of}
-use Rattle.ioa_actions.specs.ActionText.{action_text}
+use Rattle.ioa_actions.specs.ActionText.{entry_text}
 use Rattle.ioa_actions.specs.declared.action.Action.{Action}
 use Rattle.ioa_actions.specs.declared.action.Action.TheVariants.{Send, Receive, Local, Stimulus}
 use Rattle.ioa_system.specs.Invariants.{InvariantParts}
@@ -135,16 +135,17 @@ dot_mark f k a =
     ++ (attribute (codes "\" cx=\"") (point_of f k (node_of a)).x
     ++ (attribute (codes " cy=\"") (point_of f k (node_of a)).y ++ codes " r=\"3\"")))
 
--- the title of a dot: the position of the action and its text
-unfoldable pub dot_title : List (List ℕ) → ℕ → Action → List ℕ
-dot_title names k a =
-    codes "><title>" ++ (decimal k ++ (codes " " ++ (action_text names a ++ codes "</title></circle>\n")))
+-- the title of a dot: the position of the action, and its text with what its effect chose
+unfoldable pub dot_title : List (List ℕ) → ℕ → PlainEntry → List ℕ
+dot_title names k e =
+    codes "><title>" ++ (decimal k ++ (codes " " ++ (entry_text names e.action e.chosen
+    ++ codes "</title></circle>\n")))
 
--- the dot of the action at a position
-abbrev pub dot : Frame → List (List ℕ) → ℕ → Action → List ℕ
-dot f names k a = dot_mark f k a ++ dot_title names k a
+-- the dot of the entry at a position
+abbrev pub dot : Frame → List (List ℕ) → ℕ → PlainEntry → List ℕ
+dot f names k e = dot_mark f k e.action ++ dot_title names k e
 
--- the dots of the actions, counted from k
+-- the dots of the entries, counted from k
 abbrev pub dots : Frame → List (List ℕ) → ℕ → List PlainEntry → List ℕ
 dots f names k [] = []
-dots f names k (e ∷ more) = dot f names k e.action ++ dots f names (k + 1) more
+dots f names k (e ∷ more) = dot f names k e ++ dots f names (k + 1) more

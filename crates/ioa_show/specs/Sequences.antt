@@ -1,9 +1,10 @@
 -- The sequence diagram of a run for Mermaid (form): its lines in order, each ended by a line feed.
-use Rattle.std.specs.Prelude.{ℕ, ℤ, ◌+◌, nat_lt, if◌then◌else◌, List, [], ◌∷◌, ◌++◌, codes, length}
+use Rattle.std.specs.Prelude.{ℕ, ℤ, ◌+◌, nat_lt, if◌then◌else◌, List, [], ◌∷◌, ◌++◌, codes, length, map}
 use Rattle.std.specs.Prelude.{Option, Some, None}
 use Rattle.std.specs.Fmt.{decimal, signed_decimal}
-use Rattle.ioa_values.specs.Text.{text}
-use Rattle.ioa_actions.specs.ActionText.{arguments_text}
+use Rattle.ioa_values.specs.Data.{Data}
+use Rattle.ioa_values.specs.Text.{text, with_commas}
+use Rattle.ioa_actions.specs.ActionText.{arguments_text, chosen_text}
 use Rattle.ioa_actions.specs.declared.action.NodeAction.{NodeAction}
 use Rattle.ioa_actions.specs.declared.action.Action.{Action}
 use Rattle.ioa_actions.specs.declared.action.Action.TheVariants.{Send, Receive, Local, Stimulus}
@@ -62,21 +63,29 @@ send_note k (Some r) message i j = []
 send_note k None message i j =
     note i k ++ (codes "sends " ++ (message ++ (codes " to n" ++ (signed_decimal j ++ codes ", not received\n"))))
 
--- a note on an action of a node
-abbrev pub action_note : List (List ℕ) → ℕ → NodeAction → List ℕ
-action_note names k a = note a.node k ++ (a.name ++ (arguments_text names a.arguments ++ codes "\n"))
+-- a note on what the effect of a send or a receive chose at its node; nothing if it chose nothing
+abbrev pub choice_note : List (List ℕ) → ℤ → ℕ → List Data → List ℕ
+choice_note names i k [] = []
+choice_note names i k (v ∷ vs) =
+    note i k ++ (codes "choose " ++ (with_commas (map (text names) (v ∷ vs)) ++ codes "\n"))
 
--- the line of the action at position k, which has this partner
-abbrev pub entry_line : List (List ℕ) → ℕ → Option ℕ → Action → List ℕ
-entry_line names k p (Send m i j) = send_note k p (text names m) i j
-entry_line names k p (Receive m i j) = arrow names k p (text names m) i j
-entry_line names k p (Local a) = action_note names k a
-entry_line names k p (Stimulus a) = action_note names k a
+-- a note on an action of a node, with what its effect chose
+abbrev pub action_note : List (List ℕ) → ℕ → NodeAction → List Data → List ℕ
+action_note names k a vs =
+    note a.node k ++ (a.name ++ (arguments_text names a.arguments ++ (chosen_text names vs ++ codes "\n")))
 
--- the lines of the actions, counted from k, with their partners
+-- the lines of the action at position k, which has this partner and whose effect chose these values
+abbrev pub entry_line : List (List ℕ) → ℕ → Option ℕ → Action → List Data → List ℕ
+entry_line names k p (Send m i j) vs = send_note k p (text names m) i j ++ choice_note names i k vs
+entry_line names k p (Receive m i j) vs = arrow names k p (text names m) i j ++ choice_note names j k vs
+entry_line names k p (Local a) vs = action_note names k a vs
+entry_line names k p (Stimulus a) vs = action_note names k a vs
+
+-- the lines of the entries, counted from k, with their partners
 abbrev pub entry_lines : List (List ℕ) → List (Option ℕ) → ℕ → List PlainEntry → List ℕ
 entry_lines names ps k [] = []
-entry_lines names ps k (e ∷ more) = entry_line names k (partner_at k ps) e.action ++ entry_lines names ps (k + 1) more
+entry_lines names ps k (e ∷ more) =
+    entry_line names k (partner_at k ps) e.action e.chosen ++ entry_lines names ps (k + 1) more
 
 -- the whole diagram, if these are the partners of the actions
 abbrev pub sequence_text : SystemParts → List (Option ℕ) → List PlainEntry → List ℕ

@@ -4,7 +4,7 @@ use Rattle.std.specs.Prelude.{Option, Some, None, Result, Ok, Err, IsErr}
 use Rattle.std.specs.List.{flat_map}
 use Rattle.std.specs.Fmt.{decimal, signed_decimal}
 use Rattle.ioa_values.specs.Data.{Data, items_of, sequence}
-use Rattle.ioa_actions.specs.ActionText.{action_text}
+use Rattle.ioa_actions.specs.ActionText.{entry_text}
 use Rattle.ioa_actions.specs.declared.component.Component.{Component}
 use Rattle.ioa_actions.specs.declared.component.Component.TheVariants as component
 use Rattle.ioa_actions.specs.declared.fault.StepFault.{StepFault}
@@ -82,11 +82,13 @@ abbrev pub if_step : (List Conf → List ℕ) → Result (List Conf) StepFault �
 if_step f (Ok next) = f next
 if_step f (Err e) = []
 
--- the states behind these entries, of which so many are counted before: one line a state, each with its action
+-- the states behind these entries, of which so many are counted before: one line a state, each with its action and
+-- what its effect chose
 abbrev pub later_states : List (List ℕ) → ℕ → List PlainEntry → List Conf → List ℕ
 later_states names k [] cs = []
 later_states names k (e ∷ more) cs = if_step (λ next.
-    (codes ",\n" ++ state_text names (k + 1) (action_text names e.action) next) ++ later_states names (k + 1) more next)
+    (codes ",\n" ++ state_text names (k + 1) (entry_text names e.action e.chosen) next)
+    ++ later_states names (k + 1) more next)
     (joint_answer e cs)
 
 -- what stands in front of the names of what a state has, and behind them

@@ -6,7 +6,7 @@ use Rattle.ioa_values.specs.Data.{Data}
 use Rattle.ioa_values.specs.DataOrder.{same}
 use Rattle.ioa_values.specs.Text.{with_commas}
 use Rattle.ioa_actions.specs.ActionParts.{action_arguments, action_name, node_of}
-use Rattle.ioa_actions.specs.ActionText.{action_text}
+use Rattle.ioa_actions.specs.ActionText.{entry_text}
 use Rattle.ioa_actions.specs.declared.action.Action.{Action}
 use Rattle.ioa_actions.specs.declared.component.Component.{Component}
 use Rattle.ioa_actions.specs.declared.component.Component.TheVariants as component
@@ -106,27 +106,38 @@ head_told names a =
     codes "{\"action\":\"" ++ (action_name a ++ (codes "\",\"arguments\":[" ++ (values_told names (action_arguments a)
     ++ codes "],\"changes\":[")))
 
--- what stands between the changes and the queue: the node of the action, and its place in the schedule
+-- what the effect chose, behind the changes, whose list it ends; nothing if it chose nothing
+abbrev pub chosen_told : List (List ℕ) → List Data → List ℕ
+chosen_told names [] = []
+chosen_told names (v ∷ vs) = codes "],\"chosen\":[" ++ values_told names (v ∷ vs)
+
+-- what stands between these and the queue: the node of the action, and its place in the schedule
 unfoldable pub place_told : Action → ℕ → List ℕ
 place_told a k =
     codes "],\"kind\":\"step\",\"node\":" ++ (signed_decimal (node_of a) ++ (codes ",\"number\":" ++ (decimal k
     ++ codes ",\"queues\":[")))
 
--- what stands behind the queue: the text of the action
-unfoldable pub end_told : List (List ℕ) → Action → List ℕ
-end_told names a = codes "],\"text\":\"" ++ (action_text names a ++ codes "\"}\n")
+-- what stands behind the queue: the text of the action with what its effect chose
+unfoldable pub end_told : List (List ℕ) → PlainEntry → List ℕ
+end_told names e = codes "],\"text\":\"" ++ (entry_text names e.action e.chosen ++ codes "\"}\n")
 
--- the line of the action at position k, which led to these configurations, if its node had these values before: its
--- name, its arguments, what it changed of its node, its node, its position, its queue as it is after, and its text
-abbrev pub line_told : List (List ℕ) → ℕ → Action → List Data → List Conf → List ℕ
-line_told names k a vs next =
-    head_told names a ++ (changes_of names vs (find_conf (component.Node (node_of a)) next)
-    ++ (place_told a k ++ (queue_among (participants_of a) next ++ end_told names a)))
+-- what the entry changed of its node, which had these values before, and what its effect chose
+abbrev pub done_told : List (List ℕ) → PlainEntry → List Data → List Conf → List ℕ
+done_told names e vs next =
+    changes_of names vs (find_conf (component.Node (node_of e.action)) next) ++ chosen_told names e.chosen
+
+-- the line of the entry at position k, which led to these configurations, if its node had these values before: the
+-- action's name and its arguments, what it changed of its node, what its effect chose, its node, its position, its
+-- queue as it is after, and its text
+abbrev pub line_told : List (List ℕ) → ℕ → PlainEntry → List Data → List Conf → List ℕ
+line_told names k e vs next =
+    head_told names e.action ++ (done_told names e vs next
+    ++ (place_told e.action k ++ (queue_among (participants_of e.action) next ++ end_told names e)))
 
 -- the line of the step by an entry at position k from these configurations to those
 abbrev pub step_line : List (List ℕ) → ℕ → PlainEntry → List Conf → List Conf → List ℕ
 step_line names k e cs next =
-    line_told names k e.action (values_of (find_conf (component.Node (node_of e.action)) cs)) next
+    line_told names k e (values_of (find_conf (component.Node (node_of e.action)) cs)) next
 
 -- the lines of these entries, counted from k, as far as they are steps from these configurations on
 abbrev pub step_lines : List (List ℕ) → ℕ → List PlainEntry → List Conf → List ℕ

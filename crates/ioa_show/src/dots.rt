@@ -7,7 +7,7 @@ ghost use Rattle.ioa_show.specs.Marks.{action_class, dot, dot_mark, dot_title, d
 use crate::frame::Frame;
 use crate::space_time::put_number;
 use ioa_actions::Action;
-use ioa_paper::{Paper, put_action};
+use ioa_paper::{Paper, put_entry};
 use ioa_rawlog::RawLog;
 use ioa_streams::Out;
 use ioa_transitions::Entry;
@@ -24,23 +24,23 @@ pub fn put_dots<O: Out>(
 {
     let mut position = 0;
     for entry in schedule.walk() {
-        put_dot(paper, frame, names, position, entry.action());
+        put_dot(paper, frame, names, position, entry);
         position += 1;
     }
 }
 
-/// Writes the dot of an action.
+/// Writes the dot of an entry.
 fn put_dot<O: Out>(
     paper: &mut Paper<'_, O>,
     frame: Frame,
     names: &Names,
     position: usize,
-    action: &Action,
+    entry: &Entry,
 )
-    ensures { paper.new ≡ and_text paper.old (dot frame names.now position action.now) }
+    ensures { paper.new ≡ and_text paper.old (dot frame names.now position entry.now) }
 {
-    put_mark(paper, frame, position, action);
-    put_title(paper, names, position, action);
+    put_mark(paper, frame, position, entry.action());
+    put_title(paper, names, position, entry);
 }
 
 /// Writes the dot of an action at its node, as far as its title.
@@ -55,14 +55,14 @@ fn put_mark<O: Out>(paper: &mut Paper<'_, O>, frame: Frame, position: usize, act
     paper.put(" r=\"3\"");
 }
 
-/// Writes an action with its position as the title of its dot, and ends the dot.
-fn put_title<O: Out>(paper: &mut Paper<'_, O>, names: &Names, position: usize, action: &Action)
-    ensures { paper.new ≡ and_text paper.old (dot_title names.now position action.now) }
+/// Writes an action with its position, and with what its effect chose, as the title of its dot, and ends the dot.
+fn put_title<O: Out>(paper: &mut Paper<'_, O>, names: &Names, position: usize, entry: &Entry)
+    ensures { paper.new ≡ and_text paper.old (dot_title names.now position entry.now) }
 {
     paper.put("><title>");
     paper.put_number(position);
     paper.put(" ");
-    put_action(paper, names, action);
+    put_entry(paper, names, entry.action(), entry.chosen());
     paper.put("</title></circle>\n");
 }
 

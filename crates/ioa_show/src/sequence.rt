@@ -3,16 +3,16 @@
 ghost use Rattle.std.specs.Prelude.{◌≡◌, ◌++◌, None, codes, false, map};
 ghost use Rattle.std.specs.Arc.{arc_value};
 ghost use Rattle.std.specs.Fmt.{decimal};
-ghost use Rattle.ioa_values.specs.Text.{text};
+ghost use Rattle.ioa_values.specs.Text.{text, with_commas};
 ghost use Rattle.ioa_paper.specs.Papers.{and_text};
 ghost use Rattle.ioa_show.specs.Shown.{PutsWhole};
-ghost use Rattle.ioa_show.specs.Sequences.{action_note, arrow, ends, entry_line, entry_lines, many_note};
-ghost use Rattle.ioa_show.specs.Sequences.{note, participant_line, participant_lines, participant_text};
+ghost use Rattle.ioa_show.specs.Sequences.{action_note, arrow, choice_note, ends, entry_line, entry_lines};
+ghost use Rattle.ioa_show.specs.Sequences.{many_note, note, participant_line, participant_lines, participant_text};
 ghost use Rattle.ioa_show.specs.Sequences.{positions, send_note, sequence_of, sequence_text, title, warning};
 
 use crate::partners::{partner_at, partners};
 use ioa_actions::{Action, NodeAction};
-use ioa_paper::{Paper, ReportFault, put_arguments, put_value, room};
+use ioa_paper::{Paper, ReportFault, put_arguments, put_choices, put_listed, put_value, room};
 use ioa_rawlog::RawLog;
 use ioa_record::Record;
 use ioa_streams::{Out, OutFailed};
@@ -27,7 +27,7 @@ pub const MANY: usize = 1_000;
 
 /// Puts out the sequence diagram of a run (Lynch 8.1; form: profile) for Mermaid: a participant for each node, a
 /// message at its receive with the positions of its send and its receive, so that no two arrows cross, and a note for
-/// each other action and for each message that was not received.
+/// each other action, for each message that was not received, and for what the effect of a send or a receive chose.
 pub fn mermaid<O: Out>(
     alloc: Global,
     system: &System,
@@ -132,30 +132,35 @@ fn put_entries<O: Out>(
     let mut position = 0;
     for entry in schedule.walk() {
         let partner = partner_at(partners, position);
-        put_entry(paper, names, position, partner, entry.action());
+        let (action, chosen) = (entry.action(), entry.chosen());
+        put_entry(paper, names, position, partner, action, chosen);
         position += 1;
     }
 }
 
-/// Writes an action: a message at its receive, and all others as notes. A send whose message is received has none.
+/// Writes an action: a message at its receive, and all others as notes. A send whose message is received has none. What
+/// the effect chose stands behind the action, or in a note of its own.
 fn put_entry<O: Out>(
     paper: &mut Paper<'_, O>,
     names: &Names,
     position: usize,
     partner: Option<usize>,
     action: &Action,
+    chosen: &[Value],
 )
-    ensures { paper.new ≡ and_text paper.old (entry_line names.now position partner action.now) }
+    ensures { paper.new ≡ and_text paper.old (entry_line names.now position partner action.now chosen.now) }
 {
     match action {
         Action::Send { message, from, to } => {
-            put_send(paper, names, position, partner, message, *from, *to)
+            put_send(paper, names, position, partner, message, *from, *to);
+            put_choice(paper, names, *from, position, chosen)
         }
         Action::Receive { message, from, to } => {
-            put_arrow(paper, names, position, partner, message, *from, *to)
+            put_arrow(paper, names, position, partner, message, *from, *to);
+            put_choice(paper, names, *to, position, chosen)
         }
-        Action::Local(action) => put_note(paper, names, position, action),
-        Action::Stimulus(action) => put_note(paper, names, position, action),
+        Action::Local(action) => put_note(paper, names, position, action, chosen),
+        Action::Stimulus(action) => put_note(paper, names, position, action, chosen),
     }
 }
 
@@ -248,13 +253,53 @@ fn put_lost<O: Out>(
     paper.put(", not received\n");
 }
 
-/// Writes a note on an action of a node.
-fn put_note<O: Out>(paper: &mut Paper<'_, O>, names: &Names, position: usize, action: &NodeAction)
-    ensures { paper.new ≡ and_text paper.old (action_note names.now position action.now) }
+/// Writes a note on an action of a node, with what its effect chose.
+fn put_note<O: Out>(
+    paper: &mut Paper<'_, O>,
+    names: &Names,
+    position: usize,
+    action: &NodeAction,
+    chosen: &[Value],
+)
+    ensures { paper.new ≡ and_text paper.old (action_note names.now position action.now chosen.now) }
 {
     put_over(paper, action.node, position);
     paper.put(action.name.as_str());
     put_arguments(paper, names, action.arguments.as_slice());
+    put_choices(paper, names, chosen);
+    paper.put("\n");
+}
+
+/// Writes a note on what the effect of a send or a receive chose at its node; nothing if it chose nothing.
+fn put_choice<O: Out>(
+    paper: &mut Paper<'_, O>,
+    names: &Names,
+    node: i64,
+    position: usize,
+    chosen: &[Value],
+)
+    ensures { paper.new ≡ and_text paper.old (choice_note names.now node position chosen.now) }
+{
+    match chosen {
+        [] => {}
+        [_, ..] => put_chosen(paper, names, node, position, chosen),
+    }
+}
+
+/// Writes a note on values that were chosen.
+fn put_chosen<O: Out>(
+    paper: &mut Paper<'_, O>,
+    names: &Names,
+    node: i64,
+    position: usize,
+    chosen: &[Value],
+)
+    ensures { paper.new ≡ and_text paper.old (note node position
+        ++ (codes "choose " ++ (with_commas (map (text names.now) chosen.now) ++ codes "\n"))) }
+{
+    put_over(paper, node, position);
+    paper.put("choose ");
+    put_listed(paper, names, chosen);
     paper.put("\n");
 }
 

@@ -1,12 +1,12 @@
 //! Space-time diagrams.
 
-ghost use Rattle.std.specs.Prelude.{◌≡◌, false};
+ghost use Rattle.std.specs.Prelude.{◌≡◌, false, map};
 ghost use Rattle.ioa_paper.specs.Papers.{and_text};
 ghost use Rattle.ioa_show.specs.Marks.{attribute, backing, box_words, line};
 ghost use Rattle.ioa_show.specs.Diagrams.{diagram_of, diagram_text, drawing, head_words};
 ghost use Rattle.ioa_show.specs.Shown.{PutsWhole};
 
-use crate::arrows::put_messages;
+use crate::arrows::{entries_of, put_messages};
 use crate::breaks::put_breaks;
 use crate::dots::put_dots;
 use crate::frame::{Frame, Point};
@@ -47,8 +47,8 @@ text { font: 11px monospace; fill: #333 }
 
 /// Puts out the space-time diagram of a run (Lynch 8.1; form: profile) as SVG: a line for each node, its actions as
 /// dots from left to right in the order of the schedule, an arrow for each message from its send to its receive, a red
-/// dashed line for one that was not received, and a red upright where an invariant is first not true. Each dot and
-/// arrow has its line of the report as its title.
+/// dashed line for one that was not received, and a red upright where an invariant is first not true. Each dot has its
+/// line of the report as its title, and each arrow has those of its send and its receive.
 pub fn svg<O: Out>(
     alloc: Global,
     system: &System,
@@ -61,11 +61,13 @@ pub fn svg<O: Out>(
 {
     let verdicts = verdicts(alloc, system, run_record)?;
     let partners = partners(alloc, &run_record.schedule)?;
+    let entries = entries_of(alloc, &run_record.schedule)?;
     let room = room(alloc)?;
     let mut paper = Paper::new(out, room);
     put_diagram(
         &mut paper,
         system,
+        &entries,
         &run_record.schedule,
         &partners,
         &verdicts,
@@ -79,19 +81,21 @@ pub fn svg<O: Out>(
     }
 }
 
-/// Writes the diagram, if these are the partners of the schedule and these the verdicts on it.
+/// Writes the diagram, if these are the entries of the schedule, these their partners, and these the verdicts on it.
 #[tactic(auto, unfolding(crate::specs::Diagrams::diagram_text))]
 fn put_diagram<O: Out>(
     paper: &mut Paper<'_, O>,
     system: &System,
+    entries: &[&Entry],
     schedule: &RawLog<Entry>,
     partners: &[Option<usize>],
     verdicts: &[Verdict],
 )
+    requires { map (λ e. e.now) entries.now ≡ schedule.now }
     ensures { paper.new ≡ and_text paper.old (diagram_text system.now partners.now verdicts.now schedule.now) }
 {
     let frame = Frame::of(system, schedule.len(), verdicts.len());
-    put_drawing(paper, frame, system, schedule, partners, verdicts);
+    put_drawing(paper, frame, system, entries, schedule, partners, verdicts);
 }
 
 /// Writes the diagram by its measures.
@@ -99,17 +103,19 @@ fn put_drawing<O: Out>(
     paper: &mut Paper<'_, O>,
     frame: Frame,
     system: &System,
+    entries: &[&Entry],
     schedule: &RawLog<Entry>,
     partners: &[Option<usize>],
     verdicts: &[Verdict],
 )
+    requires { map (λ e. e.now) entries.now ≡ schedule.now }
     ensures { paper.new ≡ and_text paper.old (drawing frame system.now partners.now verdicts.now schedule.now) }
 {
     put_head(paper, frame);
     put_lanes(paper, frame, system.programs());
     put_ticks(paper, frame);
     put_breaks(paper, frame, system.invariants(), verdicts);
-    put_messages(paper, frame, system.names(), schedule, partners);
+    put_messages(paper, frame, system.names(), entries, schedule, partners);
     put_dots(paper, frame, system.names(), schedule);
     paper.put("</svg>\n");
 }

@@ -2,7 +2,7 @@
 
 ghost use Rattle.std.specs.Prelude.{◌≡◌, ◌++◌, false, IfOk, OnOk, OnErr, codes};
 ghost use Rattle.std.specs.List.{flat_map};
-ghost use Rattle.ioa_actions.specs.ActionText.{action_text};
+ghost use Rattle.ioa_actions.specs.ActionText.{entry_text};
 ghost use Rattle.ioa_compose.specs.Composition.{joint_answer};
 ghost use Rattle.ioa_compose.specs.Start.{start};
 ghost use Rattle.ioa_paper.specs.Papers.{and_text};
@@ -14,7 +14,7 @@ use crate::state_parts::{put_confs, put_keys};
 use ioa_actions::StepFault;
 use ioa_compose::Conf;
 use ioa_course::Course;
-use ioa_paper::{Paper, ReportFault, put_action, room};
+use ioa_paper::{Paper, ReportFault, put_entry, room};
 use ioa_rawlog::RawLog;
 use ioa_record::Record;
 use ioa_streams::{Out, OutFailed};
@@ -24,10 +24,10 @@ use ioa_values::Names;
 use std::alloc::{AllocError, Global};
 
 /// Puts out the states of a run in the informal trace format (form: profile), which is JSON: the names of what a state
-/// has, and then a state a line, the start first, each with the action that leads to it. A state has each variable `x`
-/// of node k as `x@k`, and the messages that wait on a channel as `queue(i, j)`. Behind an entry that is no step there
-/// is no state. `Memory` (3) can come when a part is out already, since each state is made when the one before it is
-/// written.
+/// has, and then a state a line, the start first, each with the action that leads to it and what its effect chose. A
+/// state has each variable `x` of node k as `x@k`, and the messages that wait on a channel as `queue(i, j)`. Behind an
+/// entry that is no step there is no state. `Memory` (3) can come when a part is out already, since each state is made
+/// when the one before it is written.
 pub fn itf<O: Out>(
     alloc: Global,
     system: &System,
@@ -149,7 +149,8 @@ fn put_step<O: Out>(
     passed: usize,
 ) -> Result<bool, AllocError>
     ensures step { IfOk result (λ b. Steps b (joint_answer entry.now course.old) course.new paper.old paper.new
-        (codes ",\n" ++ state_text names.now passed (action_text names.now entry.now.action) course.new)) }
+        (codes ",\n" ++ state_text names.now passed (entry_text names.now entry.now.action entry.now.chosen)
+        course.new)) }
     ensures part { Continues paper.old paper.new }
 {
     match course.advance(alloc, entry) {
@@ -171,11 +172,12 @@ fn put_state<O: Out>(
     passed: usize,
 )
     ensures { paper.new ≡ and_text paper.old
-        (codes ",\n" ++ state_text names.now passed (action_text names.now entry.now.action) confs.now) }
+        (codes ",\n" ++ state_text names.now passed (entry_text names.now entry.now.action entry.now.chosen)
+        confs.now) }
 {
     paper.put(",\n");
     put_index(paper, passed);
-    put_action(paper, names, entry.action());
+    put_entry(paper, names, entry.action(), entry.chosen());
     put_end(paper, names, confs);
 }
 

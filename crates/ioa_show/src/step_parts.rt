@@ -11,7 +11,8 @@ ghost use Rattle.ioa_values.specs.Data.{number};
 ghost use Rattle.ioa_values.specs.DataOrder.{same};
 ghost use Rattle.ioa_paper.specs.Papers.{and_text};
 ghost use Rattle.ioa_show.specs.Steps.{behind_then, between, change_told, change_unless, changes_behind, changes_of};
-ghost use Rattle.ioa_show.specs.Steps.{conf_changes, conf_length, queue_among, queue_name, queue_told, values_told};
+ghost use Rattle.ioa_show.specs.Steps.{chosen_told, conf_changes, conf_length, queue_among, queue_name, queue_told};
+ghost use Rattle.ioa_show.specs.Steps.{values_told};
 ghost use Rattle.ioa_show.specs.Steps as spec;
 
 use crate::step_values::put_tagged;
@@ -152,6 +153,19 @@ fn put_change<O: Out>(paper: &mut Paper<'_, O>, names: &Names, name: &str, old: 
     paper.put(",\"variable\":\"");
     paper.put(name);
     paper.put("\"}");
+}
+
+/// Writes the values that an effect chose, and ends the list of changes in front of them; nothing if it chose none.
+pub fn put_chosen<O: Out>(paper: &mut Paper<'_, O>, names: &Names, chosen: &[Value])
+    ensures { paper.new ≡ and_text paper.old (chosen_told names.now chosen.now) }
+{
+    match chosen {
+        [] => {}
+        [_, ..] => {
+            paper.put("],\"chosen\":[");
+            put_values(paper, names, chosen);
+        }
+    }
 }
 
 /// Writes the queue of which an action takes or to which it adds, with its length.

@@ -8,14 +8,14 @@ ghost use Rattle.ioa_compose.specs.Start.{start};
 ghost use Rattle.ioa_paper.specs.Papers.{and_text};
 ghost use Rattle.ioa_show.specs.Shown.{Continues, PutsText};
 ghost use Rattle.ioa_show.specs.States.{Steps};
-ghost use Rattle.ioa_show.specs.Steps.{end_told, head_told, line_told, place_told, step_line, step_lines};
-ghost use Rattle.ioa_show.specs.Steps.{steps_text, values_of};
+ghost use Rattle.ioa_show.specs.Steps.{done_told, end_told, head_told, line_told, place_told, step_line};
+ghost use Rattle.ioa_show.specs.Steps.{step_lines, steps_text, values_of};
 
-use crate::step_parts::{conf_of, put_arguments, put_changes, put_queue};
+use crate::step_parts::{conf_of, put_arguments, put_changes, put_chosen, put_queue};
 use ioa_actions::{Action, Component, StepFault};
 use ioa_compose::Conf;
 use ioa_course::Course;
-use ioa_paper::{Paper, ReportFault, put_action, room};
+use ioa_paper::{Paper, ReportFault, put_entry, room};
 use ioa_rawlog::RawLog;
 use ioa_record::Record;
 use ioa_streams::{Out, OutFailed};
@@ -25,8 +25,9 @@ use ioa_values::{Names, Value, copies};
 use std::alloc::{AllocError, Global};
 
 /// Puts out the steps of a run as JSON (form: profile), a line each: the action with its arguments, its node, its
-/// number and its text, which variables of the node changed, and the queue that took part with its new length. Behind
-/// an entry that is no step there is nothing. `Memory` (3) can come when a part is out already.
+/// number and its text, which variables of the node changed, what the effect chose, if it chose something, and the
+/// queue that took part with its new length. Behind an entry that is no step there is nothing. `Memory` (3) can come
+/// when a part is out already.
 pub fn json<O: Out>(
     alloc: Global,
     system: &System,
@@ -105,14 +106,7 @@ fn put_step<O: Out>(
     let before = values_in(alloc, conf_of(course, node))?;
     match course.advance(alloc, entry) {
         Ok(()) => {
-            put_line(
-                paper,
-                names,
-                position,
-                entry.action(),
-                before.as_slice(),
-                course,
-            );
+            put_line(paper, names, position, entry, before.as_slice(), course);
             Ok(true)
         }
         Err(StepFault::Memory) => Err(AllocError),
@@ -130,27 +124,37 @@ fn values_in(alloc: Global, conf: Option<&Conf>) -> Result<Vec<Value>, AllocErro
     }
 }
 
-/// Writes the line of an action at a position, whose node had these values before.
+/// Writes the line of an entry at a position, whose node had these values before.
 fn put_line<O: Out>(
     paper: &mut Paper<'_, O>,
     names: &Names,
     position: usize,
-    action: &Action,
+    entry: &Entry,
     before: &[Value],
     course: &Course,
 )
-    ensures { paper.new ≡ and_text paper.old (line_told names.now position action.now before.now course.now) }
+    ensures { paper.new ≡ and_text paper.old (line_told names.now position entry.now before.now course.now) }
 {
-    put_head(paper, names, action);
-    put_changes(
-        paper,
-        names,
-        before,
-        conf_of(course, Component::Node(action.node())),
-    );
-    put_place(paper, action, position);
-    put_queue(paper, course, action);
-    put_end(paper, names, action);
+    put_head(paper, names, entry.action());
+    put_done(paper, names, entry, before, course);
+    put_place(paper, entry.action(), position);
+    put_queue(paper, course, entry.action());
+    put_end(paper, names, entry);
+}
+
+/// Writes what an entry changed of its node, which had these values before, and what its effect chose.
+fn put_done<O: Out>(
+    paper: &mut Paper<'_, O>,
+    names: &Names,
+    entry: &Entry,
+    before: &[Value],
+    course: &Course,
+)
+    ensures { paper.new ≡ and_text paper.old (done_told names.now entry.now before.now course.now) }
+{
+    let node = Component::Node(entry.action().node());
+    put_changes(paper, names, before, conf_of(course, node));
+    put_chosen(paper, names, entry.chosen());
 }
 
 /// Writes the beginning of the line of an action, as far as its changes.
@@ -164,7 +168,7 @@ fn put_head<O: Out>(paper: &mut Paper<'_, O>, names: &Names, action: &Action)
     paper.put("],\"changes\":[");
 }
 
-/// Writes what stands between the changes and the queue.
+/// Writes what stands between these and the queue.
 fn put_place<O: Out>(paper: &mut Paper<'_, O>, action: &Action, position: usize)
     ensures { paper.new ≡ and_text paper.old (place_told action.now position) }
 {
@@ -176,10 +180,10 @@ fn put_place<O: Out>(paper: &mut Paper<'_, O>, action: &Action, position: usize)
 }
 
 /// Writes what stands behind the queue, to the end of the line.
-fn put_end<O: Out>(paper: &mut Paper<'_, O>, names: &Names, action: &Action)
-    ensures { paper.new ≡ and_text paper.old (end_told names.now action.now) }
+fn put_end<O: Out>(paper: &mut Paper<'_, O>, names: &Names, entry: &Entry)
+    ensures { paper.new ≡ and_text paper.old (end_told names.now entry.now) }
 {
     paper.put("],\"text\":\"");
-    put_action(paper, names, action);
+    put_entry(paper, names, entry.action(), entry.chosen());
     paper.put("\"}\n");
 }

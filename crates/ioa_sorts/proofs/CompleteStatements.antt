@@ -6,27 +6,28 @@ use Rattle.ioa_operators.specs.declared.shape.Shape.{Shape}
 use Rattle.ioa_terms.specs.declared.callee.Callee.{Callee}
 use Rattle.ioa_terms.specs.declared.name.Name.TheVariants.{Word}
 use Rattle.ioa_terms.specs.PlainTerm.{variable, at_key, at_field, assign, branch, loop, fire, choosing, no_statements, statement, statements_of, PlainArms, no_arms, arm, arms_of}
-use Rattle.ioa_terms.specs.Resolved.{IsResolvedTarget, IsResolvedFiring, IsResolvedStatement, AreArmsResolved, AreAllResolved}
+use Rattle.ioa_terms.specs.Resolved.{IsResolvedTarget, IsResolvedFiring, IsResolvedChoice, IsResolvedStatement, AreArmsResolved, AreAllResolved}
 use Rattle.ioa_terms.specs.declared.tree.Kind.{Kind}
 use Rattle.ioa_terms.specs.Bindings.{same_word}
 use Rattle.ioa_terms.proofs.SameTerms.{kind_is}
 use Rattle.std.proofs.lemmas.Slice.Eq.{bytes_eq-Decides}
 use Rattle.ioa_system.specs.Parts.{PlainRule, rule_names}
 use Rattle.ioa_terms.specs.Sorted.{NameShapes, HasShape, shape_in_terms}
-use Rattle.ioa_source.specs.Erasure.{erase_term, erase_firing, erase_target, erase_statement, erase_statements, erase_arms}
+use Rattle.ioa_source.specs.Erasure.{erase_term, erase_firing, erase_choice, erase_target, erase_statement, erase_statements, erase_arms}
 use Rattle.ioa_source.specs.Sides.{SourceFiring, SourceStatement, CheckedTerm, CheckedFiring}
 use Rattle.ioa_refusals.specs.declared.refusal.Refusal.{Refusal}
 use Rattle.ioa_sort_rules.specs.Rows.{value_of_field}
 use Rattle.ioa_typed.specs.Parts.{SortedTerm}
 use Rattle.ioa_sorts.specs.Sorting.{fit, sorting}
 use Rattle.ioa_names.specs.Views.{declared_at}
-use Rattle.ioa_sorts.specs.Statements.{SortedTarget, SortedStatement, SortedStatements, PlainTypedTarget, typed_target, all_ok, assigned_or, if_in_block, whole_target, key_target, field_target, target_sorting, assignment_sorting, statement_sorting, statement_sortings, arm_sortings}
-use Rattle.ioa_sorts.specs.SortedStatements.{HoldsShape, NamesKind, IsFired, IsSorted, AreArmsSorted, AreSorted, IsDeterminedTarget, IsDeterminedStatement, AreArmsDetermined, AreStatementsDetermined, IsStatementOf}
+use Rattle.ioa_sorts.specs.Statements.{SortedTarget, SortedChoice, SortedStatement, SortedStatements, PlainTypedTarget, typed_target, all_ok, assigned_or, if_in_block, whole_target, key_target, field_target, target_sorting, assignment_sorting, terms_sorting, shape_sorting, choice_sorting, statement_sorting, statement_sortings, arm_sortings}
+use Rattle.ioa_sorts.specs.SortedStatements.{HoldsShape, NamesKind, IsFired, IsChoiceSorted, IsSorted, AreArmsSorted, AreSorted, IsDeterminedTarget, IsDeterminedStatement, AreArmsDetermined, AreStatementsDetermined, IsStatementOf}
 use Rattle.ioa_sorts.specs.Determined.{IsDetermined}
 use Rattle.ioa_terms.specs.Resolved.{IsResolved}
 use Rattle.ioa_sorts.specs.Firings.{is_of_kind, fires, entry_fired, arguments_at, number_fired, firing_at}
 use Rattle.ioa_sorts.specs.StatementSites.{PlainStatementSite}
 use Rattle.ioa_sorts.proofs.Lookups.{contained_at, contained_has, keys_all, present_found}
+use Rattle.ioa_sorts.proofs.ChoiceRules.{new_passed, outside_passed, same_passed, sort_passed}
 use Rattle.ioa_sorts.proofs.Complete.{named_is_at, declared_found, field_found, finds}
 
 abbrev pub target_is : SortedTarget → PlainShape → Result PlainTypedTarget Refusal
@@ -74,6 +75,9 @@ assigned_found at d other = refl
 whole_found : (x : List ℕ) (at : ℕ) (d : PlainShape) → typed_target (variable x at d) (shape_in_terms d) ≡ whole_target x (at, d)
 unfolding whole_target
 whole_found x at d = refl
+
+abbrev choice_is : SortedChoice → Result SortedChoice Refusal
+choice_is c = Ok c
 
 abbrev firing_is : CheckedFiring → Result CheckedFiring Refusal
 firing_is f = Ok f
@@ -147,6 +151,18 @@ module _ (s : PlainStatementSite) (differ : IsDistinct same_word (map (λ r. r.e
   assignment_found : (p : SortedTarget) (t : SortedTerm) → IsSorted s (assign p t) → IsResolvedStatement (assign p t) (map (λ n. n.0) s.variables) (map (λ n. n.0) s.names) → IsDeterminedStatement (erase_statement (assign p t)) → statement_is (assign p t) ≡ assignment_sorting s (erase_target p) (erase_term t)
   assignment_found p t h r g = rw (← target_found p h.0 h.1 r.0 g.0, ← term_found s.names t h.0 h.2 r.1 g.1) refl
 
+  terms_found : (c : SortedChoice) → IsChoiceSorted s c → IsResolvedChoice c (map (λ n. n.0) s.variables) (map (λ n. n.0) s.names) → IsDeterminedStatement (erase_statement (choosing c)) → choice_is c ≡ terms_sorting s (erase_choice c) c.target c.shape
+  unfolding terms_sorting
+  terms_found c h r g = rw (← term_found ((Word c.name, c.shape) ∷ s.names) c.condition truths h.condition r.1 g.1, ← term_found s.names c.yields (shape_in_terms c.shape) h.yields r.2 g.2) refl
+
+  shape_found : (c : SortedChoice) → IsChoiceSorted s c → choice_is c ≡ terms_sorting s (erase_choice c) c.target c.shape → choice_is c ≡ shape_sorting s (erase_choice c) (typed_target c.target (shape_in_terms c.shape)) c.shape
+  unfolding shape_sorting
+  shape_found c h e = rw (← same_passed (shape_in_terms c.shape), ← new_passed c.name s.names h.new) e
+
+  choice_found : (c : SortedChoice) → IsChoiceSorted s c → IsResolvedChoice c (map (λ n. n.0) s.variables) (map (λ n. n.0) s.names) → IsDeterminedStatement (erase_statement (choosing c)) → choice_is c ≡ choice_sorting s (erase_choice c)
+  unfolding choice_sorting
+  choice_found c h r g = rw (← target_found c.target (shape_in_terms c.shape) h.target r.0 g.0, ← sort_passed s.types c.sort c.shape h.means h.simple) (shape_found c h (terms_found c h r g))
+
   mutual
     pub statement_found : (x : SortedStatement) → IsSorted s x → IsResolvedStatement x (map (λ n. n.0) s.variables) (map (λ n. n.0) s.names) → IsDeterminedStatement (erase_statement x) → statement_is x ≡ statement_sorting s (erase_statement x)
     statement_found (assign p t) h r g = assignment_found p t h r g
@@ -154,7 +170,7 @@ module _ (s : PlainStatementSite) (differ : IsDistinct same_word (map (λ r. r.e
     statement_found (loop t body) h r g =
         rw (← term_found s.names t truths h.1 r.0 g.0, ← allowed_found s.in_block h.0 (term_is t), ← statements_found body h.2 r.1 g.1, statements_listed body) refl
     statement_found (fire f) h r g = rw (← firing_found s.names s.rules differ f h r g) refl
-    statement_found (choosing c) h r g = absurd h
+    statement_found (choosing c) h r g = rw (← choice_found c h r g, ← outside_passed s.in_block h.outside (choice_is c)) refl
 
     statements_found : (xs : SortedStatements) → AreSorted s xs → AreAllResolved xs (map (λ n. n.0) s.variables) (map (λ n. n.0) s.names) → AreStatementsDetermined (erase_statements xs) → statements_are (listed_statements xs) ≡ all_ok (statement_sortings s (erase_statements xs))
     statements_found no_statements h r g = refl

@@ -7,6 +7,7 @@ pub mod Types
 pub mod Sound
 pub mod Complete
 pub mod Told
+pub mod ChoiceRules
 pub mod SoundStatements
 pub mod CompleteStatements
 pub mod ToldStatements

@@ -4,28 +4,29 @@ use Rattle.std.specs.List.{AllByRecursion, AllZip}
 use Rattle.ioa_values.specs.Outcome.{and_then}
 use Rattle.ioa_operators.specs.Shapes.{PlainShape, truths, maps}
 use Rattle.ioa_terms.specs.declared.name.Name.TheVariants.{Word}
-use Rattle.ioa_terms.specs.PlainTerm.{variable, at_key, at_field, assign, branch, loop, fire, choosing, firing, no_statements, statement, statements_of, no_arms, arm, arms_of}
-use Rattle.ioa_terms.specs.Resolved.{IsResolved, IsResolvedFiring, IsResolvedTarget, AreArmsResolved, AreAllResolved}
+use Rattle.ioa_terms.specs.PlainTerm.{variable, at_key, at_field, assign, branch, loop, fire, choosing, choice_with, firing, no_statements, statement, statements_of, no_arms, arm, arms_of}
+use Rattle.ioa_terms.specs.Resolved.{IsResolved, IsResolvedFiring, IsResolvedChoice, IsResolvedTarget, AreArmsResolved, AreAllResolved}
 use Rattle.ioa_terms.specs.declared.tree.Kind.{Kind}
 use Rattle.ioa_terms.proofs.SameTerms.{kind_is}
 use Rattle.ioa_system.specs.Parts.{PlainRule}
-use Rattle.ioa_terms.specs.Sorted.{NameShapes, HasShape, shape_in_terms}
-use Rattle.ioa_source.specs.Erasure.{erase_term, erase_firing, erase_target, erase_statements, erase_arms}
-use Rattle.ioa_source.specs.Sides.{SourceTarget, SourceTerm, SourceStatement, SourceStatements, SourceArms, SourceFiring, CheckedTerm, CheckedFiring}
+use Rattle.ioa_terms.specs.Sorted.{NameShapes, HasShape, shape_in_terms, shape_named}
+use Rattle.ioa_source.specs.Erasure.{erase_term, erase_firing, erase_choice, erase_target, erase_statements, erase_arms}
+use Rattle.ioa_source.specs.Sides.{SourceTarget, SourceTerm, SourceStatement, SourceStatements, SourceArms, SourceFiring, SourceChoice, CheckedTerm, CheckedFiring}
 use Rattle.ioa_refusals.specs.declared.refusal.Refusal.{Refusal}
 use Rattle.ioa_refusals.specs.declared.refusal.Refusal.TheVariants.{Unknown}
 use Rattle.ioa_sort_rules.specs.Rows.{entry_of, value_of_field}
 use Rattle.ioa_typed.specs.Parts.{SortedTerm}
 use Rattle.ioa_sorts.specs.Sorting.{fit, sorting}
 use Rattle.ioa_names.specs.Views.{declared_at}
-use Rattle.ioa_sorts.specs.Statements.{SortedStatement, SortedStatements, PlainTypedTarget, typed_target, all_ok, assigned_or, assigned, if_in_block, whole_target, key_target, field_target, target_sorting, assignment_sorting, statement_sorting, statement_sortings, arm_sortings}
-use Rattle.ioa_sorts.specs.SortedStatements.{HoldsShape, NamesKind, IsFired, AreArmsSorted, AreSorted, IsDeterminedTarget, AreArmsDetermined, AreStatementsDetermined, IsStatementOf}
+use Rattle.ioa_sorts.specs.Statements.{SortedChoice, SortedStatement, SortedStatements, PlainTypedTarget, typed_target, all_ok, assigned_or, assigned, if_in_block, if_in_effect, simple_shape, same_or, new_name, terms_sorting, shape_sorting, choice_sorting, whole_target, key_target, field_target, target_sorting, assignment_sorting, statement_sorting, statement_sortings, arm_sortings}
+use Rattle.ioa_sorts.specs.SortedStatements.{HoldsShape, NamesKind, IsFired, IsChoiceSorted, AreArmsSorted, AreSorted, IsDeterminedTarget, IsDeterminedStatement, AreArmsDetermined, AreStatementsDetermined, IsStatementOf}
 use Rattle.ioa_sort_rules.specs.DeclaredTypes.{TupleTypes, IsDeclared, AreAllDeclared}
 use Rattle.ioa_sorts.specs.Determined.{IsDetermined}
 use Rattle.ioa_sorts.specs.Firings.{is_of_kind, fires, entry_fired, arguments_at, number_fired, firing_at}
 use Rattle.ioa_sorts.specs.StatementSites.{PlainStatementSite, IsDeclaredSite}
 use Rattle.ioa_sorts.proofs.Lookups.{found_has, found_is}
 use Rattle.ioa_sorts.proofs.Chains.{chain}
+use Rattle.ioa_sorts.proofs.ChoiceRules.{IsSimpleOf, simple_declared, sort_good, same_good, new_good}
 use Rattle.ioa_sorts.proofs.Types.{in_terms, field_declared, entry_declared, AreBoth}
 use Rattle.ioa_sorts.proofs.CompleteStatements.{statement_is}
 use Rattle.ioa_sorts.proofs.Sound.{IsFound, IsDeclaredAt, IsDeclaredIf, declared_is, field_is, fit_found}
@@ -202,6 +203,57 @@ module _ (types : TupleTypes) (s : PlainStatementSite) (site : IsDeclaredSite ty
       by_site true e = both r h e
       by_site false e = tt
 
+  -- a choice that is found
+  record IsChoiceOf (u : SourceChoice) (c : SortedChoice) : Type 0 where
+    same : erase_choice c ≡ u
+    resolved : IsResolvedChoice c (map (λ n. n.0) s.variables) (map (λ n. n.0) s.names)
+    sorted : IsChoiceSorted s c
+    determined : IsDeterminedStatement (choosing u)
+
+  module _ (outside : s.in_block ≡ false) (c : SourceChoice) where
+    terms_good : (q : PlainTypedTarget) (d : PlainShape) → IsTargetOf types s c.target q → IsSimpleOf s.types c.sort d → shape_in_terms d ≡ q.shape → shape_named (Word c.name) s.names ≡ None → IfOk (terms_sorting s c q.target d) (IsChoiceOf c)
+    unfolding terms_sorting
+    terms_good q d p m same new =
+        chain (λ t. IsFound types ((Word c.name, d) ∷ s.names) c.condition t truths) (IsChoiceOf c) (λ t. and_then (fit (sorting s.names c.yields) (shape_in_terms d)) (λ u. Ok (choice_with q.target c.name c.sort d t u))) (fit (sorting ((Word c.name, d) ∷ s.names) c.condition) truths) (fit_found types ((Word c.name, d) ∷ s.names) (simple_declared types d m.1, site.names) c.condition truths tt)
+        (λ t f. chain (λ u. IsFound types s.names c.yields u (shape_in_terms d)) (IsChoiceOf c) (λ u. Ok (choice_with q.target c.name c.sort d t u)) (fit (sorting s.names c.yields) (shape_in_terms d)) (fit_found types s.names site.names c.yields (shape_in_terms d) (in_terms types d (simple_declared types d m.1)))
+        (λ u g. record {
+          same = λ i. choice_with (p.same i) c.name c.sort tt (f.of.same i) (g.of.same i);
+          resolved = (p.resolved, f.of.resolved, g.of.resolved);
+          sorted = record {
+            outside = outside;
+            means = m.0;
+            simple = m.1;
+            target = subst (HoldsShape s.variables s.names q.target) (sym same) p.holds;
+            new = new;
+            condition = f.of.has_shape;
+            yields = g.of.has_shape;
+          };
+          determined = (p.determined, f.of.determined, g.of.determined);
+        }))
+
+    shape_good : (q : PlainTypedTarget) (d : PlainShape) → IsTargetOf types s c.target q → IsSimpleOf s.types c.sort d → IfOk (shape_sorting s c q d) (IsChoiceOf c)
+    unfolding shape_sorting
+    shape_good q d p m =
+        chain (λ _. shape_in_terms d ≡ q.shape) (IsChoiceOf c) (λ _. and_then (new_name c.name s.names) (λ _. terms_sorting s c q.target d)) (same_or (shape_in_terms d) q.shape) (same_good types (shape_in_terms d) q.shape (in_terms types d (simple_declared types d m.1)) p.declared)
+        (λ _ same. chain (λ _. shape_named (Word c.name) s.names ≡ None) (IsChoiceOf c) (λ _. terms_sorting s c q.target d) (new_name c.name s.names) (new_good c.name s.names)
+        (λ _ new. terms_good q d p m same new))
+
+    choice_good : IfOk (choice_sorting s c) (IsChoiceOf c)
+    unfolding choice_sorting
+    choice_good =
+        chain (IsTargetOf types s c.target) (IsChoiceOf c) (λ q. and_then (simple_shape s.types c.sort) (shape_sorting s c q)) (target_sorting s c.target) (target_good c.target)
+        (λ q p. chain (IsSimpleOf s.types c.sort) (IsChoiceOf c) (shape_sorting s c q) (simple_shape s.types c.sort) (sort_good s.types c.sort) (λ d m. shape_good q d p m))
+
+  -- only an effect has a choice
+  choosing_good : (c : SourceChoice) → IfOk (statement_sorting s (choosing c)) (IsStatementOf s (choosing c))
+  unfolding if_in_effect
+  choosing_good c = by_site s.in_block refl
+    where
+      by_site : (b : Bool) → s.in_block ≡ b → IfOk (and_then (if b then Err Unknown else choice_sorting s c) (λ d. Ok (choosing d))) (IsStatementOf s (choosing c))
+      by_site true e = tt
+      by_site false e = chain (IsChoiceOf c) (IsStatementOf s (choosing c)) (λ d. Ok (choosing d)) (choice_sorting s c) (choice_good e c)
+          (λ d h. record { same = ap choosing h.same; resolved = h.resolved; sorted = h.sorted; determined = h.determined })
+
   mutual
     pub statement_good : (u : SourceStatement) → IfOk (statement_sorting s u) (IsStatementOf s u)
     statement_good (assign p t) = assignment_good p t
@@ -225,7 +277,7 @@ module _ (types : TupleTypes) (s : PlainStatementSite) (site : IsDeclaredSite ty
           determined = (f.1.of.determined, b.determined);
         }))
     statement_good (fire f) = fire_good f
-    statement_good (choosing c) = tt
+    statement_good (choosing c) = choosing_good c
 
     statements_good : (us : SourceStatements) → IfOk (all_ok (statement_sortings s us)) (AreStatementsOf s us)
     statements_good no_statements = record { same = refl; resolved = tt; sorted = tt; determined = tt }

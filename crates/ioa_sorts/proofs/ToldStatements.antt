@@ -4,20 +4,21 @@ use Rattle.std.specs.List.{AllByRecursion}
 use Rattle.ioa_values.specs.Outcome.{and_then}
 use Rattle.ioa_operators.specs.Shapes.{PlainShape, truths}
 use Rattle.ioa_terms.specs.declared.name.Name.TheVariants.{Word}
-use Rattle.ioa_terms.specs.PlainTerm.{variable, at_key, at_field, assign, branch, loop, fire, choosing, firing, no_statements, statement, statements_of, no_arms, arm, arms_of}
+use Rattle.ioa_terms.specs.PlainTerm.{variable, at_key, at_field, assign, branch, loop, fire, choosing, choice_with, firing, no_statements, statement, statements_of, no_arms, arm, arms_of}
 use Rattle.ioa_terms.specs.Sorted.{NameShapes, shape_in_terms}
-use Rattle.ioa_source.specs.Sides.{SourceTarget, SourceTerm, SourceStatement, SourceStatements, SourceArms, SourceFiring}
+use Rattle.ioa_source.specs.Sides.{SourceTarget, SourceTerm, SourceStatement, SourceStatements, SourceArms, SourceFiring, SourceChoice}
 use Rattle.ioa_system.specs.Parts.{PlainRule}
 use Rattle.ioa_refusals.specs.declared.refusal.Refusal.{Refusal}
 use Rattle.ioa_refusals.specs.declared.refusal.Refusal.TheVariants.{EmptyOfWhat, ScheduleAssignsState}
 use Rattle.ioa_sort_rules.specs.Rows.{entry_of, value_of_field}
 use Rattle.ioa_sorts.specs.Sorting.{fit, sorting}
 use Rattle.ioa_names.specs.Views.{declared_at}
-use Rattle.ioa_sorts.specs.Statements.{typed_target, all_ok, assigned_or, assigned, if_in_block, whole_target, key_target, field_target, target_sorting, statement_sorting, statement_sortings, arm_sortings}
+use Rattle.ioa_sorts.specs.Statements.{SortedTarget, PlainTypedTarget, typed_target, all_ok, assigned_or, assigned, if_in_block, if_in_effect, simple_shape, same_or, new_name, terms_sorting, shape_sorting, choice_sorting, whole_target, key_target, field_target, target_sorting, statement_sorting, statement_sortings, arm_sortings}
 use Rattle.ioa_sorts.specs.SortedStatements.{IsDeterminedTarget, IsDeterminedStatement, AreArmsDetermined, AreStatementsDetermined}
 use Rattle.ioa_sorts.specs.Determined.{IsDetermined}
 use Rattle.ioa_sorts.specs.Firings.{fires, entry_fired, arguments_at, number_fired, firing_at}
 use Rattle.ioa_sorts.specs.StatementSites.{PlainStatementSite}
+use Rattle.ioa_sorts.proofs.ChoiceRules.{effect_calm, new_calm, same_calm, sort_calm}
 use Rattle.ioa_sorts.proofs.Told.{Calmly, Anything, calm_chain, calm_end, sorts_is_calm, unknown_is_calm, entry_calm, field_calm, fit_is_calm, told}
 
 state_is_calm : ScheduleAssignsState ≡ EmptyOfWhat → ⊥
@@ -70,6 +71,21 @@ module _ (s : PlainStatementSite) where
   target_calm (at_key x at d k) g = calm_chain Anything Anything (key_target s.names x k) (assigned s x) (variable_calm x) (λ p _. key_calm s.names x k g p)
   target_calm (at_field x at d f) g = calm_chain Anything Anything (field_target x f) (assigned s x) (variable_calm x) (λ p _. field_target_calm s.names x f p)
 
+  terms_calm : (c : SourceChoice) (p : SortedTarget) (d : PlainShape) → IsDeterminedStatement (choosing c) → Calmly Anything (terms_sorting s c p d)
+  unfolding terms_sorting
+  terms_calm c p d g = calm_chain Anything Anything (λ t. and_then (fit (sorting s.names c.yields) (shape_in_terms d)) (λ u. Ok (choice_with p c.name c.sort d t u))) (fit (sorting ((Word c.name, d) ∷ s.names) c.condition) truths) (fit_is_calm ((Word c.name, d) ∷ s.names) c.condition truths g.1)
+      (λ t _. calm_end Anything (λ u. choice_with p c.name c.sort d t u) (fit (sorting s.names c.yields) (shape_in_terms d)) (fit_is_calm s.names c.yields (shape_in_terms d) g.2))
+
+  shape_sorting_calm : (c : SourceChoice) (q : PlainTypedTarget) (d : PlainShape) → IsDeterminedStatement (choosing c) → Calmly Anything (shape_sorting s c q d)
+  unfolding shape_sorting
+  shape_sorting_calm c q d g = calm_chain Anything Anything (λ _. and_then (new_name c.name s.names) (λ _. terms_sorting s c q.target d)) (same_or (shape_in_terms d) q.shape) (same_calm (shape_in_terms d) q.shape)
+      (λ _ _. calm_chain Anything Anything (λ _. terms_sorting s c q.target d) (new_name c.name s.names) (new_calm c.name s.names) (λ _ _. terms_calm c q.target d g))
+
+  choice_calm : (c : SourceChoice) → IsDeterminedStatement (choosing c) → Calmly Anything (choice_sorting s c)
+  unfolding choice_sorting
+  choice_calm c g = calm_chain Anything Anything (λ q. and_then (simple_shape s.types c.sort) (shape_sorting s c q)) (target_sorting s c.target) (target_calm c.target g.0)
+      (λ q _. calm_chain Anything Anything (shape_sorting s c q) (simple_shape s.types c.sort) (sort_calm s.types c.sort) (λ d _. shape_sorting_calm c q d g))
+
   mutual
     statement_calm : (u : SourceStatement) → IsDeterminedStatement u → Calmly Anything (statement_sorting s u)
     statement_calm (assign p t) g = calm_chain Anything Anything (λ q. and_then (fit (sorting s.names t) q.shape) (λ v. Ok (assign q.target v))) (target_sorting s p) (target_calm p g.0)
@@ -80,7 +96,7 @@ module _ (s : PlainStatementSite) where
         (block_calm s.in_block (fit (sorting s.names t) truths) (fit_is_calm s.names t truths g.0))
         (λ v _. calm_end Anything (λ ss. loop v (statements_of ss)) (all_ok (statement_sortings s body)) (statements_calm body g.1))
     statement_calm (fire f) g = calm_end Anything (λ c. fire c) (firing_at s.names s.rules f) (firing_calm s.names s.rules f g)
-    statement_calm (choosing c) g = unknown_is_calm
+    statement_calm (choosing c) g = calm_end Anything (λ d. choosing d) (if_in_effect s.in_block (choice_sorting s c)) (effect_calm s.in_block (choice_sorting s c) (choice_calm c g))
 
     statements_calm : (us : SourceStatements) → AreStatementsDetermined us → Calmly Anything (all_ok (statement_sortings s us))
     statements_calm no_statements g = tt

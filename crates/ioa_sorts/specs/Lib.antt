@@ -3,6 +3,7 @@ pub mod Sorting
 pub mod SortingView
 pub mod Determined
 pub mod SortedTerms
+pub mod SimpleShapes
 pub mod StatementSites
 pub mod Firings
 pub mod SiteView

@@ -1,6 +1,6 @@
 -- A statement of a text with slots and shapes (profile): what the rules of sorts find, in words that know nothing of
 -- the rules.
-use Rattle.std.specs.Prelude.{◌≡◌, ℕ, true, List, Option, Some, None, map, slice_get}
+use Rattle.std.specs.Prelude.{◌≡◌, ℕ, true, false, List, ◌∷◌, Option, Some, None, map, slice_get}
 use Rattle.std.specs.List.{AllByRecursion, AllZip}
 use Rattle.std.specs.Option.{option_map}
 use Rattle.ioa_operators.specs.Shapes.{PlainShape, truths, maps}
@@ -9,7 +9,7 @@ use Rattle.ioa_terms.specs.declared.callee.Callee.{Callee}
 use Rattle.ioa_terms.specs.declared.name.Name.TheVariants.{Word}
 use Rattle.ioa_terms.specs.declared.tree.Kind.{Kind}
 use Rattle.ioa_terms.specs.PlainTerm.{PlainTarget, variable, at_key, at_field, PlainStatement, assign, branch, loop, fire}
-use Rattle.ioa_terms.specs.PlainTerm.{choosing}
+use Rattle.ioa_terms.specs.PlainTerm.{PlainChoice, choosing}
 use Rattle.ioa_terms.specs.PlainTerm.{PlainStatements, no_statements, statement, PlainArms, no_arms, arm}
 use Rattle.ioa_terms.specs.Resolved.{IsResolvedStatement}
 use Rattle.ioa_terms.specs.Sorted.{NameShapes, HasShape, shape_named, shape_in_terms, field_shape}
@@ -17,7 +17,9 @@ use Rattle.ioa_source.specs.Erasure.{erase_statement}
 use Rattle.ioa_source.specs.Sides.{SourceTarget, SourceStatement, SourceStatements, SourceArms, CheckedFiring}
 use Rattle.ioa_system.specs.Parts.{PlainRule}
 use Rattle.ioa_sorts.specs.Determined.{IsDetermined}
+use Rattle.ioa_sorts.specs.SimpleShapes.{IsSimple}
 use Rattle.ioa_sorts.specs.StatementSites.{PlainStatementSite}
+use Rattle.ioa_types.specs.Meanings.{Means}
 
 -- a target holds values of a shape, in which naturals count as integers: it is a variable of that shape, the values
 -- of a map, or a field, and beside it is the variable's declared shape
@@ -43,15 +45,27 @@ pub record IsFired (names : NameShapes) (rules : List PlainRule) (f : CheckedFir
   pub of_kind : NamesKind f.kind rule.entry.kind
   pub arguments : AllZip (λ s t. HasShape names t (shape_in_terms s)) rule.shapes f.arguments
 
+-- a choice stands in an effect; its sort means a simple shape, which its target holds, in which naturals count as
+-- integers; the name of its value is new, and stands in front where the condition is read, which is a truth value; what
+-- it yields is read without that name, and has the shape
+pub record IsChoiceSorted (s : PlainStatementSite) (c : PlainChoice ℕ Callee Shape) : Type 0 where
+  pub outside : s.in_block ≡ false
+  pub means : Means s.types c.sort c.shape
+  pub simple : IsSimple c.shape
+  pub target : HoldsShape s.variables s.names c.target (shape_in_terms c.shape)
+  pub new : shape_named (Word c.name) s.names ≡ None
+  pub condition : HasShape ((Word c.name, c.shape) ∷ s.names) c.condition truths
+  pub yields : HasShape s.names c.yields (shape_in_terms c.shape)
+
 abbrev mutual
-  -- what a statement assigns has the shape of the target, what it tests is a truth value, and what it fires is an
-  -- action with its arguments; no choice is sorted yet
+  -- what a statement assigns has the shape of the target, what it tests is a truth value, what it fires is an action
+  -- with its arguments, and what it chooses has a simple shape
   pub IsSorted : PlainStatementSite → PlainStatement ℕ Callee Shape → Type 0
   IsSorted s (assign p t) = (u : PlainShape) × HoldsShape s.variables s.names p u × HasShape s.names t u
   IsSorted s (branch arms rest) = AreArmsSorted s arms × AreSorted s rest
   IsSorted s (loop t body) = (s.in_block ≡ true) × HasShape s.names t truths × AreSorted s body
   IsSorted s (fire f) = IsFired s.names s.rules f
-  IsSorted s (choosing c) = ⊥
+  IsSorted s (choosing c) = IsChoiceSorted s c
 
   pub AreArmsSorted : PlainStatementSite → PlainArms ℕ Callee Shape → Type 0
   AreArmsSorted s no_arms = Unit {0}

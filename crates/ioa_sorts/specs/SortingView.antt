@@ -1,6 +1,6 @@
 -- What the code of targets means (view).
 use Rattle.ioa_terms.specs.View.{target_of}
-use Rattle.ioa_sorts.specs.declared.statements.TypedTarget.{TypedTarget}
+use Rattle.ioa_sorts.specs.declared.targets.TypedTarget.{TypedTarget}
 use Rattle.ioa_sorts.specs.Statements.{PlainTypedTarget, typed_target}
 
 -- a target and the shape of what is assigned to it

@@ -45,8 +45,9 @@ pub fn sorts_law()
 
 /// The same of statements, where some names in view are variables, which may be assigned: a statement that the rules
 /// find is the text's with slots and shapes, what it assigns has the sort of its target, what it tests is a truth
-/// value, and what it fires is an action with its arguments. They find each such statement, if the names of the rules
-/// differ, and refuse one by `EmptyOfWhat` (32) only if one of its displays is not determined.
+/// value, what it fires is an action with its arguments, and what it chooses has a simple sort, which its target holds,
+/// and a new name, which only the condition reads. They find each such statement, if the names of the rules differ, and
+/// refuse one by `EmptyOfWhat` (32) only if one of its displays is not determined.
 pub fn statements_law()
     ensures sound { (types : TupleTypes) (site : PlainStatementSite) → IsDeclaredSite types site →
         (u : SourceStatement) (s : SortedStatement) → statement_sorting site u ≡ Ok s → IsStatementOf site u s }

@@ -9,6 +9,7 @@
 #![tactic(auto)]
 
 mod calls;
+mod choices;
 mod displays;
 mod firings;
 mod laws;
@@ -16,7 +17,9 @@ mod parts;
 mod site;
 mod sorting;
 mod statements;
+mod targets;
 
+pub use choices::simple_shape;
 pub use firings::sort_arguments;
 pub use laws::{sorts_law, statements_law};
 pub use site::StatementSite;

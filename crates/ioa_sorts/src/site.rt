@@ -5,6 +5,14 @@ ghost use Rattle.ioa_sorts.specs.SiteView.{site_of};
 ghost use Rattle.ioa_sorts.specs.StatementSites.{block_site, effect_site};
 
 use ioa_names::{RuleTable, View};
+use ioa_types::Types;
+
+/// Where statements are written: in an effect, which may choose values of these types, or in a schedule block.
+#[derive(Clone, Copy)]
+pub(crate) enum Place<'a> {
+    Effect(&'a Types),
+    Block,
+}
 
 /// Where statements are written (profile): in the effect of a transition or in a schedule block. The variables that
 /// they may assign come first among the names in view, and in a schedule block the state variables come next.
@@ -13,21 +21,27 @@ pub struct StatementSite<'a> {
     pub(crate) view: &'a View<'a>,
     pub(crate) variables: usize,
     pub(crate) all_variables: usize,
-    pub(crate) in_block: bool,
+    pub(crate) place: Place<'a>,
     pub(crate) rules: &'a RuleTable,
 }
 
 impl<'a> StatementSite<'a> {
-    /// An effect, which may assign the first `variables` names in view. `none` are no rules: an effect fires nothing.
-    pub fn effect(view: &'a View<'a>, variables: usize, none: &'a RuleTable) -> Self
+    /// An effect, which may choose values of the text's types, and assign the first `variables` names in view. `none`
+    /// are no rules: an effect fires nothing.
+    pub fn effect(
+        types: &'a Types,
+        view: &'a View<'a>,
+        variables: usize,
+        none: &'a RuleTable,
+    ) -> Self
         requires { none.now ≡ [] }
-        ensures { site_of result ≡ effect_site (take variables view.now) view.now }
+        ensures { site_of result ≡ effect_site types.now (take variables view.now) view.now }
     {
         StatementSite {
             view,
             variables,
             all_variables: variables,
-            in_block: false,
+            place: Place::Effect(types),
             rules: none,
         }
     }
@@ -47,7 +61,7 @@ impl<'a> StatementSite<'a> {
             view,
             variables,
             all_variables,
-            in_block: true,
+            place: Place::Block,
             rules,
         }
     }

@@ -2,6 +2,7 @@
 
 ghost use Rattle.std.specs.Option.{option_map};
 ghost use Rattle.ioa_values.specs.Outcome.{Answers};
+ghost use Rattle.ioa_operators.specs.Shapes.{truths};
 ghost use Rattle.ioa_terms.specs.Sorted.{shape_in_terms};
 ghost use Rattle.ioa_terms.specs.View.{term_of};
 ghost use Rattle.ioa_names.specs.Views.{named};
@@ -14,7 +15,7 @@ use crate::parts::two_parts;
 use ioa_names::View;
 use ioa_refusals::Refusal;
 use ioa_sort_rules::{pairing_of, shape_in_terms, single_of};
-use ioa_terms::{Checked, Name, Shape, Term};
+use ioa_terms::{Checked, Name, Shape, ShapeForm, Term};
 use ioa_typed::{
     Typed, field_known, fit_typed, name_term, number_term, one_term, part_known, truth_term,
     two_term,
@@ -117,4 +118,13 @@ fn name_known(alloc: Global, view: &View, name: &Name) -> Result<Box<Typed>, Ref
         Some((slot, shape)) => Ok(name_term(alloc, name, slot, shape)?),
         None => Err(Refusal::Unknown),
     }
+}
+
+/// A test with slots and shapes: a truth value.
+pub(crate) fn truth_of(alloc: Global, view: &View, test: &Term) -> Result<Checked, Refusal>
+    ensures { Answers Refusal.Memory term_of result
+        (spec.fit (spec.sorting view.now (term_of test.now)) truths) }
+{
+    let want = Shape::of(ShapeForm::Truths);
+    fit(alloc, view, test, &want)
 }

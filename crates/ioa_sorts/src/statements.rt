@@ -1,39 +1,31 @@
 //! The sorts of statements.
 
-ghost use Rattle.std.specs.Prelude.{◌≡◌, IfOk, Ok, map};
-ghost use Rattle.ioa_values.specs.Outcome.{Answers, and_then};
+ghost use Rattle.std.specs.Prelude.{◌≡◌, map};
+ghost use Rattle.ioa_values.specs.Outcome.{Answers};
 ghost use Rattle.ioa_operators.specs.Shapes.{truths};
 ghost use Rattle.ioa_terms.specs.PlainTerm as plain;
 ghost use Rattle.ioa_terms.specs.PlainTerm.{arms_of, statements_of};
-ghost use Rattle.ioa_terms.specs.Sorted.{shape_in_terms};
-ghost use Rattle.ioa_terms.specs.View.{term_of, target_of, statement_of, arm_of, firing_of};
-ghost use Rattle.ioa_sort_rules.specs.Rows as rows;
-ghost use Rattle.ioa_sorts.specs.SiteView.{site_of};
+ghost use Rattle.ioa_terms.specs.View.{term_of, target_of, statement_of, arm_of, firing_of, choice_of};
+ghost use Rattle.ioa_sorts.specs.SiteView.{site_of, is_block};
 ghost use Rattle.ioa_sorts.specs.Sorting as sorting;
-ghost use Rattle.ioa_sorts.specs.SortingView.{typed_target_of};
 ghost use Rattle.ioa_sorts.specs.Statements as spec;
 
+use crate::choices::sort_choice;
 use crate::firings::sort_firing;
-use crate::site::StatementSite;
-use crate::sorting::fit;
-use ioa_names::View;
+use crate::site::{Place, StatementSite};
+use crate::sorting::{fit, truth_of};
+use crate::targets::sort_target;
 use ioa_refusals::Refusal;
-use ioa_sort_rules::{Sides, entry_of, shape_in_terms, value_of_field};
-use ioa_terms::{Arm, Callee, Checked, Firing, Shape, ShapeForm, Statement, Target, Term, Word};
-use std::alloc::{AllocError, Global};
-
-/// A target with the slot and the declared shape of its variable, and the shape of what is assigned to it.
-#[derive(Drop)]
-pub(crate) struct TypedTarget {
-    pub target: Target<usize, Callee, Shape>,
-    pub shape: Shape,
-}
+use ioa_terms::{Arm, Callee, Checked, Choice, Firing, Shape, Statement, Target, Term};
+use std::alloc::Global;
 
 /// The statements with the slot of each name and the shape of each display and of each target's variable. Returns what
-/// `fit` does, `Unknown` (20) if a target is no variable or has no such field, if a firing names no entry, for a
-/// choice, or for a `while` that is not in a schedule block, `ScheduleAssignsState` (26) if a schedule block assigns a
-/// state variable, and `Sorts` (22) if a target has no keys or no fields, or if a term has another sort than its target
-/// or is tested and no truth value. The first refusal in the text's order is returned.
+/// `fit` does, `Unknown` (20) if a target is no variable or has no such field, if a firing names no entry, if a choice
+/// names no type, for a choice in a schedule block, or for a `while` that is not in one, `ScheduleAssignsState` (26) if a
+/// schedule block assigns a state variable, `Twice` (21) if the name of a chosen value is in view, and `Sorts` (22) if a
+/// target has no keys or no fields, if a term or a choice has another sort than its target, if a term is tested and no
+/// truth value, or if the values of a choice are neither truth values nor numbers nor constants. The first refusal in the
+/// text's order is returned; of a choice the sort comes before the name.
 #[cycle(sorting_statements)]
 pub fn sort_statements(
     alloc: Global,
@@ -75,7 +67,7 @@ fn sort_statement(
             Ok(repetition(test, body))
         }
         Statement::Fire(firing) => sort_fire(alloc, site, firing),
-        Statement::Choose(_) => Err(Refusal::Unknown),
+        Statement::Choose(choice) => sort_choosing(alloc, site, choice),
     }
 }
 
@@ -115,25 +107,15 @@ fn sort_arm(
     })
 }
 
-/// A test with slots and shapes: a truth value.
-fn truth_of(alloc: Global, view: &View, test: &Term) -> Result<Checked, Refusal>
-    ensures { Answers Refusal.Memory term_of result
-        (sorting.fit (sorting.sorting view.now (term_of test.now)) truths) }
-{
-    let want = Shape::of(ShapeForm::Truths);
-    fit(alloc, view, test, &want)
-}
-
 /// The test of a `while` with slots and shapes: a truth value. `Unknown` (20) outside of a schedule block.
 #[tactic(auto, unfolding(crate::specs::Statements::if_in_block))]
 fn sort_loop_test(alloc: Global, site: &StatementSite, test: &Term) -> Result<Checked, Refusal>
-    ensures { Answers Refusal.Memory term_of result (spec.if_in_block site.now.in_block
+    ensures { Answers Refusal.Memory term_of result (spec.if_in_block (is_block site.now.place)
         (sorting.fit (sorting.sorting site.now.view.now (term_of test.now)) truths)) }
 {
-    if site.in_block {
-        truth_of(alloc, site.view, test)
-    } else {
-        Err(Refusal::Unknown)
+    match site.place {
+        Place::Block => truth_of(alloc, site.view, test),
+        Place::Effect(_) => Err(Refusal::Unknown),
     }
 }
 
@@ -148,6 +130,19 @@ fn sort_fire(
 {
     let firing = sort_firing(alloc, site.view, site.rules, firing)?;
     Ok(Statement::Fire(firing))
+}
+
+/// A choice with slots and shapes.
+fn sort_choosing(
+    alloc: Global,
+    site: &StatementSite,
+    choice: &Choice<(), (), ()>,
+) -> Result<Statement<usize, Callee, Shape>, Refusal>
+    ensures { Answers Refusal.Memory statement_of result
+        (spec.statement_sorting (site_of site.now) (plain.choosing (choice_of choice.now))) }
+{
+    let choice = sort_choice(alloc, site, choice)?;
+    Ok(Statement::Choose(Box::new(alloc, choice)?))
 }
 
 /// A `while` of a test and its body.
@@ -184,137 +179,4 @@ fn sort_assignment(
     let target = Box::new(alloc, sort_target(alloc, site, target)?)?;
     let value = fit(alloc, site.view, term, &target.shape)?;
     Ok(Statement::Assign(Box::into_inner(target).target, value))
-}
-
-/// A target with the slot and the declared shape of its variable.
-fn sort_target(
-    alloc: Global,
-    site: &StatementSite,
-    target: &Target<(), (), ()>,
-) -> Result<TypedTarget, Refusal>
-    ensures { Answers Refusal.Memory typed_target_of result
-        (spec.target_sorting (site_of site.now) (target_of target.now)) }
-{
-    match target {
-        Target::Variable(name, _, _) => {
-            let found = assigned(site, name)?;
-            whole_target(alloc, name, found)
-        }
-        Target::At(name, _, _, key) => {
-            let found = assigned(site, name)?;
-            key_target(alloc, site.view, name, key, found)
-        }
-        Target::Field(name, _, _, field) => {
-            let found = assigned(site, name)?;
-            field_target(alloc, name, field, found)
-        }
-    }
-}
-
-/// The slot and the declared shape of a variable that may be assigned. `ScheduleAssignsState` (26) for another
-/// variable, which is one of the state, and `Unknown` (20) for what is no variable.
-#[tactic(auto, unfolding(crate::specs::Statements::assigned_or))]
-fn assigned<'a>(site: &'a StatementSite, name: &Word) -> Result<(usize, &'a Shape), Refusal>
-    ensures { Answers Refusal.Memory (λ p. (p.0, p.1.now)) result (spec.assigned (site_of site.now) name.now) }
-{
-    if let Some(found) = site.view.find_variable(name, site.variables) {
-        return Ok(found);
-    }
-    match site.view.find_variable(name, site.all_variables) {
-        None => Err(Refusal::Unknown),
-        Some(_) => Err(Refusal::ScheduleAssignsState),
-    }
-}
-
-/// A variable as a whole.
-#[tactic(auto, unfolding(crate::specs::Statements::whole_target))]
-fn whole_target(alloc: Global, name: &Word, found: (usize, &Shape)) -> Result<TypedTarget, Refusal>
-    ensures { Answers Refusal.Memory typed_target_of result
-        (Ok (spec.whole_target name.now (found.entry.0, found.entry.1.now))) }
-{
-    let (slot, declared) = found;
-    let name = name.try_copy(alloc)?;
-    let shape = shape_in_terms(alloc, declared)?;
-    let target = Target::Variable(name, slot, declared.try_copy(alloc)?);
-    Ok(TypedTarget { target, shape })
-}
-
-/// The value of a variable at a key.
-#[tactic(auto, unfolding(crate::specs::Statements::key_target))]
-fn key_target(
-    alloc: Global,
-    view: &View,
-    name: &Word,
-    key: &Term,
-    found: (usize, &Shape),
-) -> Result<TypedTarget, Refusal>
-    ensures { Answers Refusal.Memory typed_target_of result
-        (spec.key_target view.now name.now (term_of key.now) (found.entry.0, found.entry.1.now)) }
-{
-    let sides = declared_entry(alloc, found.1)?;
-    key_by(alloc, view, name, key, found, &sides)
-}
-
-/// The shapes of the keys and of the values of a map, by its declared shape.
-fn declared_entry(alloc: Global, declared: &Shape) -> Result<Sides, Refusal>
-    ensures { Answers Refusal.Memory (λ p. rows.sides p.other p.whole) result
-        (rows.entry_of (shape_in_terms declared.now)) }
-{
-    let shape = shape_in_terms(alloc, declared)?;
-    entry_of(alloc, &shape)
-}
-
-/// The value of a variable at a key, by the shapes of the keys and of the values.
-fn key_by(
-    alloc: Global,
-    view: &View,
-    name: &Word,
-    key: &Term,
-    found: (usize, &Shape),
-    sides: &Sides,
-) -> Result<TypedTarget, Refusal>
-    ensures { Answers Refusal.Memory typed_target_of result
-        (and_then (sorting.fit (sorting.sorting view.now (term_of key.now)) sides.now.other)
-        (λ t. Ok (spec.typed_target (plain.at_key name.now found.entry.0 found.entry.1.now t) sides.now.whole))) }
-{
-    let key = Box::new(alloc, fit(alloc, view, key, &sides.other)?)?;
-    Ok(keyed(alloc, name, found, key, &sides.whole)?)
-}
-
-/// A target of a variable's slot and declared shape, a key, and the shape of the value there.
-fn keyed(
-    alloc: Global,
-    name: &Word,
-    found: (usize, &Shape),
-    key: Box<Checked>,
-    whole: &Shape,
-) -> Result<TypedTarget, AllocError>
-    ensures { IfOk result (λ t. typed_target_of t ≡ spec.typed_target
-        (plain.at_key name.now found.entry.0 found.entry.1.now (term_of key.value)) whole.now) }
-{
-    let (slot, declared) = found;
-    let name = name.try_copy(alloc)?;
-    let declared = declared.try_copy(alloc)?;
-    let shape = whole.try_copy(alloc)?;
-    let target = Target::At(name, slot, declared, Box::into_inner(key));
-    Ok(TypedTarget { target, shape })
-}
-
-/// A field of a variable.
-#[tactic(auto, unfolding(crate::specs::Statements::field_target))]
-fn field_target(
-    alloc: Global,
-    name: &Word,
-    field: &Word,
-    found: (usize, &Shape),
-) -> Result<TypedTarget, Refusal>
-    ensures { Answers Refusal.Memory typed_target_of result
-        (spec.field_target name.now field.now (found.entry.0, found.entry.1.now)) }
-{
-    let (slot, declared) = found;
-    let name = name.try_copy(alloc)?;
-    let shape = value_of_field(alloc, field, declared)?;
-    let field = field.try_copy(alloc)?;
-    let target = Target::Field(name, slot, declared.try_copy(alloc)?, field);
-    Ok(TypedTarget { target, shape })
 }

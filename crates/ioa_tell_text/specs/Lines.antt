@@ -1,7 +1,7 @@
 -- Actions that were taken, misses and idle turns as text (form).
 use Rattle.std.specs.Prelude.{ℕ, ℤ, nat_lt, if◌then◌else◌, List, [], ◌++◌, Option, codes}
 use Rattle.std.specs.Fmt.{decimal, signed_decimal}
-use Rattle.ioa_actions.specs.ActionText.{action_text}
+use Rattle.ioa_actions.specs.ActionText.{action_text, entry_text}
 use Rattle.ioa_actions.specs.declared.action.Action.{Action}
 use Rattle.ioa_actions.specs.declared.action.Action.TheVariants.{Send, Receive, Local, Stimulus}
 use Rattle.ioa_compose.specs.declared.configuration.Conf.{Conf}
@@ -14,10 +14,11 @@ use Rattle.ioa_tell_text.specs.declared.waiting.Waiting.{Waiting}
 use Rattle.ioa_tell_text.specs.declared.waiting.Why.{Why}
 use Rattle.ioa_tell_text.specs.declared.waiting.Why.TheVariants as why
 
--- `k action` for the action after k others, and then what it changed
+-- `k action` for the action after k others, with what its effect chose, and then what it changed
 abbrev pub taken_line : List (List ℕ) → ℕ → PlainEntry → Conf → Conf → Option Conf → List ℕ
 taken_line names k e before after queue =
-    decimal k ++ (codes " " ++ (action_text names e.action ++ (changes_text names before after queue ++ codes "\n")))
+    decimal k ++ (codes " " ++ (entry_text names e.action e.chosen
+    ++ (changes_text names before after queue ++ codes "\n")))
 
 -- why an action was not enabled
 abbrev pub why_text : List (List ℕ) → Why → List ℕ

@@ -16,12 +16,12 @@ use crate::waiting::{Passing, Waiting, Why};
 use ioa_actions::{Action, Component};
 use ioa_channels::Item;
 use ioa_compose::Conf;
-use ioa_paper::{Paper, put_action, put_node_action, put_value};
+use ioa_paper::{Paper, put_action, put_entry, put_node_action, put_value};
 use ioa_streams::Out;
 use ioa_transitions::Entry;
 use ioa_values::Names;
 
-/// Writes the line of an action that was taken: its number, the action, and what it changed.
+/// Writes the line of an action that was taken: its number, the action with what its effect chose, and what it changed.
 pub(crate) fn put_taken<O: Out>(
     paper: &mut Paper<'_, O>,
     names: &Names,
@@ -36,7 +36,7 @@ pub(crate) fn put_taken<O: Out>(
 {
     paper.put_number(number);
     paper.put(" ");
-    put_action(paper, names, entry.action());
+    put_entry(paper, names, entry.action(), entry.chosen());
     put_changes(paper, names, before, after, queue);
     paper.put("\n");
 }

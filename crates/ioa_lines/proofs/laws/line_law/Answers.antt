@@ -3,4 +3,4 @@ use Rattle.ioa_lines.proofs.SoundLine.{line_sound}
 use Rattle.ioa_lines.proofs.laws.line_law.Goals as goal
 
 pub returns : goal.returns
-returns c = λ s xs a. (line_sound s xs a, line_complete s xs a)
+returns c = λ s xs e. (line_sound s xs e, line_complete s xs e)

@@ -3,7 +3,7 @@ use Rattle.ioa_report_laws.proofs.laws.report_law.Goals as goal
 
 pub returns : goal.returns
 returns c =
-    let taken = c.actions_law.ensures.replay in
+    let taken = c.entries_law.ensures.replay in
     let of_text = c.text_system_law.ensures in
     let spelled = c.printed_lines_law.ensures.spelled in
     record {

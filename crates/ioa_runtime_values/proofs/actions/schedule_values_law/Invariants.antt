@@ -4,4 +4,4 @@ use Rattle.ioa_runtime_values.proofs.actions.schedule_values_law.Given as goal
 
 -- if those that are left have such values, all have
 abbrev pub invariant-loop-entry : goal.invariant-loop-entry
-invariant-loop-entry l = AllByRecursion (λ e. HasRuntimeValues e.action) l.entry-iterator → AllByRecursion (λ e. HasRuntimeValues e.action) l.schedule
+invariant-loop-entry l = AllByRecursion HasRuntimeValues l.entry-iterator → AllByRecursion HasRuntimeValues l.schedule

@@ -9,7 +9,9 @@ pub returns : goal.returns
 unfolding arrow_title
 returns g c =
     five c.args.paper.now c.put.new.self c.put_numbered.new.paper c.put-2.new.self c.put_numbered-2.new.paper c.put-3.new.self
-    (codes "><title>") (numbered c.args.way.start send_name (text c.args.names.now c.args.message.now) c.args.way)
-    (codes " ; ") (numbered c.args.way.end receive_name (text c.args.names.now c.args.message.now) c.args.way)
+    (codes "><title>")
+    (numbered c.args.names.now c.args.way.start send_name (text c.args.names.now c.args.message.now) c.args.way c.args.sent.now)
+    (codes " ; ")
+    (numbered c.args.names.now c.args.way.end receive_name (text c.args.names.now c.args.message.now) c.args.way c.args.received.now)
     (codes "</title></line>\n") c.put.ensures c.put_numbered.ensures c.put-2.ensures c.put_numbered-2.ensures
     c.put-3.ensures

@@ -1,6 +1,8 @@
+use Rattle.std.proofs.Common.{◌≡◌, rules}
 use Rattle.std.specs.Prelude.{codes}
 use Rattle.std.specs.Fmt.{decimal}
-use Rattle.ioa_actions.specs.ActionText.{action_text}
+use Rattle.ioa_actions.specs.ActionText.{entry_text}
+use Rattle.ioa_paper.specs.Papers.{and_text}
 use Rattle.ioa_show.specs.Marks.{dot_title}
 use Rattle.ioa_show.proofs.Puts.{five}
 use Rattle.ioa_show.proofs.dots.put_title.Goals as goal
@@ -8,6 +10,8 @@ use Rattle.ioa_show.proofs.dots.put_title.Goals as goal
 pub returns : goal.returns
 unfolding dot_title
 returns g c =
-    five c.args.paper.now c.put.new.self c.put_number.new.self c.put-2.new.self c.put_action.new.paper c.put-3.new.self
-    (codes "><title>") (decimal c.args.position) (codes " ") (action_text c.args.names.now c.args.action.now)
-    (codes "</title></circle>\n") c.put.ensures c.put_number.ensures c.put-2.ensures c.put_action.ensures c.put-3.ensures
+    let words = entry_text c.args.names.now c.args.entry.now.action c.args.entry.now.chosen in
+    let told : c.put_entry.new.paper ≡ and_text c.put-2.new.self words = search rules in
+    five c.args.paper.now c.put.new.self c.put_number.new.self c.put-2.new.self c.put_entry.new.paper c.put-3.new.self
+    (codes "><title>") (decimal c.args.position) (codes " ") words (codes "</title></circle>\n") c.put.ensures
+    c.put_number.ensures c.put-2.ensures told c.put-3.ensures

@@ -1,6 +1,6 @@
 use Rattle.std.proofs.Common.{◌≡◌, ◌∷◌, ◌+◌, ◌++◌, ap, arith, length, refl, ◌∙◌}
 use Rattle.std.specs.Prelude.{codes}
-use Rattle.ioa_actions.specs.ActionText.{action_text}
+use Rattle.ioa_actions.specs.ActionText.{entry_text}
 use Rattle.ioa_paper.specs.Papers.{and_text}
 use Rattle.ioa_show.specs.States.{later_states, state_text}
 use Rattle.ioa_show.proofs.Passing.{steps_end, steps_off, steps_on}
@@ -39,5 +39,5 @@ returns-then-not-branch-clause-whole g c =
     steps_off c.args.names.now c.loop-entry.passed c.in-Some.entry.now c.loop-entry.entry-iterator c.next.new.self
     c.loop-entry.course c.put_step.new.course c.loop-entry.paper c.put_step.new.paper
     (and_text c.args.paper.now (later_states c.args.names.now 0 c.args.schedule.now c.args.course.now))
-    (codes ",\n" ++ state_text c.args.names.now (c.loop-entry.passed + 1) (action_text c.args.names.now c.in-Some.entry.now.action) c.put_step.new.course)
+    (codes ",\n" ++ state_text c.args.names.now (c.loop-entry.passed + 1) (entry_text c.args.names.now c.in-Some.entry.now.action c.in-Some.entry.now.chosen) c.put_step.new.course)
     c.in_ok-put_step.field-0 c.loop-entry.invariant.due split c.if-not-branch.true c.in_ok-put_step.ensures.step

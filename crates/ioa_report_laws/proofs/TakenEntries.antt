@@ -1,5 +1,5 @@
 -- Each action of an execution of an accepted system is one of the system's, none but sends and receives has the name of
--- messages, and no entry has a chosen value.
+-- messages, and chosen values are simple.
 use Rattle.std.proofs.Common.{◌≡◌, ℕ, ℤ, true, false, List, [], ◌∷◌, inl, inr, refl, sym, subst, ◌∙◌}
 use Rattle.std.specs.List.{AllByRecursion, AllZip}
 use Rattle.std.specs.Ordering.{int_eq}
@@ -41,9 +41,9 @@ use Rattle.ioa_compose.proofs.Projections.{replays}
 use Rattle.ioa_compose.proofs.Starts.{start_state}
 use Rattle.ioa_run_laws.proofs.Accepted.{IsAcceptedProgram, is_accepted, system_constants}
 use Rattle.ioa_run_laws.proofs.Assigned.{widened}
+use Rattle.ioa_run_laws.proofs.ChosenValues.{chosen_simple}
 use Rattle.ioa_run_laws.proofs.Environments.{given_valued}
 use Rattle.ioa_run_laws.proofs.NodeSteps.{is_rule}
-use Rattle.ioa_run_laws.proofs.NothingChosen.{chose_nothing}
 use Rattle.ioa_run_laws.proofs.Runs.{IsOwnStep, run_steps}
 use Rattle.ioa_run_laws.proofs.Starts.{all_contained}
 use Rattle.ioa_printed_lines.specs.TextSystems.{IsNoMessage}
@@ -118,7 +118,7 @@ node_taken x s h en own = record {
         made.0.parameters r.entry.parameters r.shapes (action_arguments en.action) made.1.parameters mine.action.arguments;
   };
   message = no_message en.action r mine.action.name mine.action.kind made.1.message;
-  chosen = chose_nothing x s h en own;
+  chosen = chosen_simple x s h en own;
 }
   where
     p : Parts
@@ -146,8 +146,8 @@ node_taken x s h en own = record {
     made = is_rule h.types p accepted r mine.present
 
 -- an execution from the start, and a replay from it
-pub actions_taken : (x : SourceText) (s : SystemParts) (entries : List PlainEntry) (cs : List Conf) → IsSystemOf x s → IsExecution (IsJointStep IsStep) (start s) entries cs → AllByRecursion (IsTaken s) entries
-actions_taken x s entries cs h e = all_contained (IsTaken s) entries (λ en c. node_taken x s h en (contained_has (IsOwnStep s) entries en (run_steps x s entries cs h e) c))
+pub entries_taken : (x : SourceText) (s : SystemParts) (entries : List PlainEntry) (cs : List Conf) → IsSystemOf x s → IsExecution (IsJointStep IsStep) (start s) entries cs → AllByRecursion (IsTaken s) entries
+entries_taken x s entries cs h e = all_contained (IsTaken s) entries (λ en c. node_taken x s h en (contained_has (IsOwnStep s) entries en (run_steps x s entries cs h e) c))
 
 pub replay_taken : (x : SourceText) (s : SystemParts) (entries : List PlainEntry) (cs : List Conf) → IsSystemOf x s → replay entries (start s) ≡ Some cs → AllByRecursion (IsTaken s) entries
-replay_taken x s entries cs h e = actions_taken x s entries cs h (replays entries (start s) cs (start_state s (declared_once x s h)) e)
+replay_taken x s entries cs h e = entries_taken x s entries cs h (replays entries (start s) cs (start_state s (declared_once x s h)) e)
