@@ -40,7 +40,7 @@ by_and : (op : BinaryOperator) (a b u : CheckedTerm) (e : Bindings) (q : Bool) �
 by_and op a b u e true f g h = elim (either (false_part a e) (false_part b e) u h) [ inl x ↦ f x | inr y ↦ g y ]
 by_and op a b u e false f g h = if_it (two op a b) u e (is_false (answer (two op a b) e)) refl h
 
-part_is_false : (t u : CheckedTerm) (e : Bindings) → false_part t e ≡ Some u → answer u e ≡ Ok (truth false)
+pub part_is_false : (t u : CheckedTerm) (e : Bindings) → false_part t e ≡ Some u → answer u e ≡ Ok (truth false)
 part_is_false (two op a b) u e h = by_and op a b u e (is_and op) (λ g. part_is_false a u e g) (λ g. part_is_false b u e g) h
 part_is_false t u e h = if_it t u e (is_false (answer t e)) refl h
 

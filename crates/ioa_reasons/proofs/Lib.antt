@@ -4,5 +4,6 @@ pub mod FaultParts
 pub mod FaultyTerms
 pub mod FieldShapes
 pub mod Firsts
+pub mod Stopped
 pub mod UnfitFound
 pub mod Viewed

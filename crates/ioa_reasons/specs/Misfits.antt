@@ -9,7 +9,7 @@ use Rattle.ioa_terms.specs.PlainTerm.{PlainTarget, variable, at_key, at_field}
 use Rattle.ioa_terms.specs.Sorted.{field_shape}
 use Rattle.ioa_terms.specs.declared.callee.Callee.{Callee}
 use Rattle.ioa_source.specs.Sides.{CheckedTerm}
-use Rattle.ioa_reasons.specs.PlainReasons.{PlainStatementPlace, assigned, tested, repeated, fired}
+use Rattle.ioa_reasons.specs.PlainReasons.{PlainStatementPlace, assigned, tested, repeated, fired, chosen, allowed}
 
 -- `m[k] := t` puts a part where a shape is asked for, if m has the first shape: the key has the shape of the keys, and
 -- the term that of the values
@@ -30,12 +30,14 @@ PutsAt (variable x at d) t part s = (part ≡ t) × (s ≡ d)
 PutsAt (at_key x at d k) t part s = PutsInMap d k t part s
 PutsAt (at_field x at d f) t part s = (part ≡ t) × (field_shape f d ≡ Some s)
 
--- a statement puts a part where a shape is asked for: none but an assignment does
+-- a statement puts a part where a shape is asked for: an assignment does, and a choice, whose value has a sort besides
 abbrev pub Asks : PlainStatementPlace → CheckedTerm → PlainShape → Type 0
 Asks (assigned p t) part s = PutsAt p t part s
 Asks (tested test) part s = ⊥
 Asks (repeated test) part s = ⊥
 Asks (fired f) part s = ⊥
+Asks (chosen c) part s = ((part ≡ c.yields) × (s ≡ c.shape)) ⊎ PutsAt c.target c.yields part s
+Asks (allowed c) part s = ⊥
 
 -- a value of a part has not the shape that is asked for where the statement puts it
 abbrev pub Misfits : PlainStatementPlace → CheckedTerm → Data → Type 0

@@ -6,8 +6,8 @@ use Rattle.ioa_channels.specs.Fronts.{front_item}
 use Rattle.ioa_channels.specs.declared.queue.Item.{Item}
 use Rattle.ioa_source.specs.Sides.{CheckedTerm}
 use Rattle.ioa_operators.specs.declared.shape.Shape.{Shape}
-use Rattle.ioa_terms.specs.PlainTerm.{PlainFiring, PlainTarget}
-use Rattle.ioa_terms.specs.View.{firing_of, target_of, term_of}
+use Rattle.ioa_terms.specs.PlainTerm.{PlainChoice, PlainFiring, PlainTarget}
+use Rattle.ioa_terms.specs.View.{choice_of, firing_of, target_of, term_of}
 use Rattle.ioa_terms.specs.declared.callee.Callee.{Callee}
 use Rattle.ioa_terms.specs.declared.name.Name.{Name}
 use Rattle.ioa_values.specs.Data.{Data}
@@ -41,18 +41,23 @@ reason_of (reason.Absent k) = absent k
 reason_of reason.Node = node
 reason_of (reason.False test part values) = falsified test (term_of part.now) (map named_value values.now)
 
--- a statement in which a term is written: an assignment, an `if` and a `while` with this test, and a `fire`
+-- a statement in which a term is written: an assignment, an `if` and a `while` with this test, a `fire`, and a choice,
+-- either its target with the term that yields the value, or its condition
 pub data PlainStatementPlace : Type 0 where
   assigned : PlainTarget ℕ Callee Shape → CheckedTerm → PlainStatementPlace
   tested : CheckedTerm → PlainStatementPlace
   repeated : CheckedTerm → PlainStatementPlace
   fired : PlainFiring ℕ Callee Shape → PlainStatementPlace
+  chosen : PlainChoice ℕ Callee Shape → PlainStatementPlace
+  allowed : PlainChoice ℕ Callee Shape → PlainStatementPlace
 
 abbrev pub statement_place_of : StatementPlace → PlainStatementPlace
 statement_place_of (statement.Assigned target term) = assigned (target_of target.now) (term_of term.now)
 statement_place_of (statement.Tested test) = tested (term_of test.now)
 statement_place_of (statement.Repeated test) = repeated (term_of test.now)
 statement_place_of (statement.Fired firing) = fired (firing_of firing.now)
+statement_place_of (statement.Chosen choice) = chosen (choice_of choice.now)
+statement_place_of (statement.Allowed choice) = allowed (choice_of choice.now)
 
 -- where a term of a step is written: in the condition of its entry, in its guard, or in a statement of its effect
 pub data PlainPlace : Type 0 where
@@ -66,7 +71,7 @@ place_of place.Guard = guard
 place_of (place.Effect s) = effect (statement_place_of s)
 
 -- a part of a term at which a step or a turn stops, the values of the names that it reads, and its own value, if it has
--- one: that is not of the sort of its place
+-- one: that is not of the sort of its place, or it is false in the condition of a choice
 pub record PlainFault : Type 0 where
   pub part : CheckedTerm
   pub values : List (Name × Data)

@@ -250,6 +250,7 @@ pub(crate) fn step_view<'a>(
 ) -> View<'a>
     requires valued { length variables.now ≡ length program.now.automaton.variables }
     requires own { length rule.now.own ≡ length own.now }
+    ensures front { result.front.now ≡ [] }
     ensures named { IsNamed result variables.now }
     ensures own { own_names result (length variables.now)
         ≡ map Name.Word (variable_names program.now.automaton.variables) }
@@ -305,7 +306,7 @@ fn falsified_part<'a>(
 }
 
 /// The first part of a term that is false, from left to right.
-fn false_part<'a>(
+pub(crate) fn false_part<'a>(
     alloc: Global,
     term: &'a Checked,
     env: &Env,

@@ -209,6 +209,7 @@ fn fault_of_effect<'a>(
     requires resolved { AreResolved rule.now.transition.effect (own_names view.now (length variables.now))
         (names_in_view view.now) }
     requires named { IsNamed view.now variables.now }
+    requires front { view.now.front.now ≡ [] }
     ensures { IfOk result (λ o. IfSome o
         (λ f. StopsThen (names_in_view view.now) (statement_place_of f.place) (fault_found f.fault))) }
 {

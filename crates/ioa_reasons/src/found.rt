@@ -7,9 +7,10 @@ ghost use Rattle.ioa_terms.specs.Views.{IsNamed, environment_of, names_in_view};
 ghost use Rattle.ioa_reasons.specs.PlainReasons.{fault_of, named_value, statement_place_of};
 ghost use Rattle.ioa_reasons.specs.FoundFaults.{fault_found};
 ghost use Rattle.ioa_reasons.specs.Stopping.{HasNoValue, StopsAt};
-ghost use Rattle.ioa_reasons.specs.Stops.{IsFaultyIn, IsMisfitIn, IsStopIn};
+ghost use Rattle.ioa_reasons.specs.Stops.{IsFaultyAt, IsFaultyIn, IsMisfitIn, IsStopIn};
 ghost use Rattle.ioa_reasons.specs.Tests.{values_read};
 
+use crate::chosen::stopped_behind;
 use crate::falsified::read_values;
 use crate::reason::{Fault, NamedValue, StatementPlace};
 use crate::stops::Stop;
@@ -24,7 +25,8 @@ pub struct FoundFault<'a> {
     pub part: &'a Checked,
     /// The values of its names then.
     pub values: Vec<NamedValue<'a>>,
-    /// Its value, which is not of the sort of its place. None if the part has no value.
+    /// Its value, which is not of the sort of its place, or `false` in the condition of a choice. None if the part has
+    /// no value.
     pub value: Option<Value>,
 }
 
@@ -84,10 +86,12 @@ pub(crate) fn fault_by<'a>(
         Stop::Passed | Stop::Unknown => Ok(None),
         Stop::At(place, part) => Ok(Some(stopped_without(alloc, place, part, view, values)?)),
         Stop::Misfit(place, part) => stopped_with(alloc, place, part, view, values),
+        Stop::Behind(choice) => stopped_behind(alloc, choice, view, values),
     }
 }
 
 /// A statement that stops at a part which has no value.
+#[tactic(auto, using(crate::proofs::Stopped::stops_there))]
 fn stopped_without<'a>(
     alloc: Global,
     place: StatementPlace<'a>,
@@ -96,7 +100,7 @@ fn stopped_without<'a>(
     values: &[Value],
 ) -> Result<StatementFault<'a>, AllocError>
     requires named { IsNamed view.now values.now }
-    requires faulty { IsFaultyIn view.now values.now (term_of part.now) }
+    requires faulty { IsFaultyAt view.now values.now (statement_place_of place) (term_of part.now) }
     ensures { IfOk result (λ f. StopsAt (statement_place_of f.place)
         (environment_of view.now values.now) (fault_found f.fault)) }
 {
@@ -109,7 +113,8 @@ fn stopped_without<'a>(
 }
 
 /// A statement that stops at a part whose value has not the shape of its place.
-fn stopped_with<'a>(
+#[tactic(auto, using(crate::proofs::Stopped::stops_there))]
+pub(crate) fn stopped_with<'a>(
     alloc: Global,
     place: StatementPlace<'a>,
     part: &'a Checked,
@@ -137,7 +142,7 @@ fn stopped_with<'a>(
 }
 
 /// The values of the names of a part.
-fn names_of_part<'a>(
+pub(crate) fn names_of_part<'a>(
     alloc: Global,
     part: &'a Checked,
     view: &View,

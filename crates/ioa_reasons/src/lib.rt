@@ -7,6 +7,7 @@
 //! **Must not know**: how a run is told, what was taken before, and texts.
 #![tactic(auto)]
 
+mod chosen;
 mod falsified;
 mod faulted;
 mod faulty;

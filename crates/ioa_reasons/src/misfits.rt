@@ -9,10 +9,9 @@ ghost use Rattle.ioa_terms.specs.Resolved.{IsResolved, IsResolvedStatement};
 ghost use Rattle.ioa_terms.specs.Sorted.{field_shape};
 ghost use Rattle.ioa_terms.specs.View.{target_of, term_of};
 ghost use Rattle.ioa_terms.specs.Views.{IsNamed, environment_of, names_in_view, own_names};
-ghost use Rattle.ioa_reasons.specs.PlainReasons.{statement_place_of};
 ghost use Rattle.ioa_reasons.specs.Misfits as spec;
-ghost use Rattle.ioa_reasons.specs.Misfits.{Asks};
-ghost use Rattle.ioa_reasons.specs.Stops.{IsStopIn};
+ghost use Rattle.ioa_reasons.specs.Misfits.{PutsAt};
+ghost use Rattle.ioa_reasons.specs.Stops.{IsMisfitPut, IsStopIn};
 
 use crate::reason::StatementPlace;
 use crate::stops::Stop;
@@ -20,7 +19,7 @@ use ioa_terms::{Callee, Checked, Shape, ShapeForm, Target, TermFault, View, Word
 use ioa_values::Value;
 use std::alloc::{AllocError, Global};
 
-/// At which part of an assignment there is a value that has not the shape of its place: the key comes first.
+/// Where an assignment stops: at a part whose value has not the shape of its place.
 pub(crate) fn misfit_in_assignment<'a>(
     alloc: Global,
     target: &'a Target<usize, Callee, Shape>,
@@ -33,21 +32,40 @@ pub(crate) fn misfit_in_assignment<'a>(
     requires named { IsNamed view.now values.now }
     ensures { IfOk result (λ s. IsStopIn view.now values.now s) }
 {
-    let place = StatementPlace::Assigned(target, term);
+    match misfit_where_put(alloc, target, term, view, values)? {
+        Some(part) => Ok(Stop::Misfit(StatementPlace::Assigned(target, term), part)),
+        None => Ok(Stop::Unknown),
+    }
+}
+
+/// The part of an assignment whose value has not the shape of its place: the key comes first.
+pub(crate) fn misfit_where_put<'a>(
+    alloc: Global,
+    target: &'a Target<usize, Callee, Shape>,
+    term: &'a Checked,
+    view: &View,
+    values: &[Value],
+) -> Result<Option<&'a Checked>, AllocError>
+    requires resolved { IsResolvedStatement (assign (target_of target.now) (term_of term.now))
+        (own_names view.now (length values.now)) (names_in_view view.now) }
+    requires named { IsNamed view.now values.now }
+    ensures { IfOk result (λ o. IfSome o
+        (λ t. IsMisfitPut view.now values.now (target_of target.now) (term_of term.now) (term_of t.now))) }
+{
     match target {
-        Target::Variable(_, _, shape) => misfit_at(alloc, place, term, shape, view, values),
+        Target::Variable(_, _, shape) => misfit_at(alloc, target, term, term, shape, view, values),
         Target::At(_, _, map, key) => match &map.form {
             ShapeForm::Maps(keys, items) => {
-                match misfit_at(alloc, place, key, keys, view, values)? {
-                    Stop::Unknown => misfit_at(alloc, place, term, items, view, values),
-                    stop => Ok(stop),
+                match misfit_at(alloc, target, term, key, keys, view, values)? {
+                    None => misfit_at(alloc, target, term, term, items, view, values),
+                    Some(part) => Ok(Some(part)),
                 }
             }
-            _ => Ok(Stop::Unknown),
+            _ => Ok(None),
         },
         Target::Field(_, _, whole, field) => match shape_of_field(whole, field) {
-            None => Ok(Stop::Unknown),
-            Some(shape) => misfit_at(alloc, place, term, shape, view, values),
+            None => Ok(None),
+            Some(shape) => misfit_at(alloc, target, term, term, shape, view, values),
         },
     }
 }
@@ -87,29 +105,31 @@ fn shape_at(shapes: &Vec<Shape>, position: Option<usize>) -> Option<&Shape>
     }
 }
 
-/// A part of a statement, if its value has not this shape, which is asked for at its place.
+/// A part of an assignment, if its value has not this shape, which is asked for at its place.
 fn misfit_at<'a>(
     alloc: Global,
-    place: StatementPlace<'a>,
+    target: &Target<usize, Callee, Shape>,
+    term: &Checked,
     part: &'a Checked,
-    shape: &'a Shape,
+    shape: &Shape,
     view: &View,
     values: &[Value],
-) -> Result<Stop<'a>, AllocError>
-    requires asked { Asks (statement_place_of place) (term_of part.now) shape.now }
+) -> Result<Option<&'a Checked>, AllocError>
+    requires puts { PutsAt (target_of target.now) (term_of term.now) (term_of part.now) shape.now }
     requires resolved { IsResolved (term_of part.now) (names_in_view view.now) }
     requires named { IsNamed view.now values.now }
-    ensures { IfOk result (λ s. IsStopIn view.now values.now s) }
+    ensures { IfOk result (λ o. IfSome o
+        (λ t. IsMisfitPut view.now values.now (target_of target.now) (term_of term.now) (term_of t.now))) }
 {
     if is_misfit(alloc, part, shape, view, values)? {
-        Ok(Stop::Misfit(place, part))
+        Ok(Some(part))
     } else {
-        Ok(Stop::Unknown)
+        Ok(None)
     }
 }
 
 /// Whether a term has a value that has not this shape.
-fn is_misfit(
+pub(crate) fn is_misfit(
     alloc: Global,
     term: &Checked,
     shape: &Shape,

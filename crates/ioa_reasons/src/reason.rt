@@ -2,7 +2,7 @@
 
 use ioa_actions::Component;
 use ioa_channels::Front;
-use ioa_terms::{Callee, Checked, Firing, Name, Shape, Target, Value};
+use ioa_terms::{Callee, Checked, Choice, Firing, Name, Shape, Target, Value};
 
 /// A test that an action has to pass at its node.
 #[derive(Clone, Copy, Debug, PartialEq, Eq)]
@@ -24,6 +24,10 @@ pub enum StatementPlace<'a> {
     Repeated(&'a Checked),
     /// A `fire`.
     Fired(&'a Firing<usize, Callee, Shape>),
+    /// A choice of the value that its own term yields.
+    Chosen(&'a Choice<usize, Callee, Shape>),
+    /// The condition of a choice.
+    Allowed(&'a Choice<usize, Callee, Shape>),
 }
 
 /// Where a term of a step is written.
@@ -53,7 +57,8 @@ pub struct Fault<'a> {
     pub part: &'a Checked,
     /// The values of its names then.
     pub values: &'a [NamedValue<'a>],
-    /// Its value, which is not of the sort of its place. None if the part has no value.
+    /// Its value, which is not of the sort of its place, or `false` in the condition of a choice. None if the part has
+    /// no value.
     pub value: Option<&'a Value>,
 }
 

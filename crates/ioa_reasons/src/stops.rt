@@ -1,17 +1,20 @@
 //! Where statements meet a fault.
 
-ghost use Rattle.std.specs.Prelude.{◌≡◌, IfOk, IfSome, length, map};
+ghost use Rattle.std.specs.Prelude.{◌≡◌, [], IfOk, IfSome, length, map};
 ghost use Rattle.ioa_terms.specs.PlainTerm.{assign, statements_of};
 ghost use Rattle.ioa_terms.specs.Resolved.{AreAllResolved, IsResolved, IsResolvedStatement};
 ghost use Rattle.ioa_terms.specs.View.{statement_of, target_of, term_of};
 ghost use Rattle.ioa_terms.specs.Views.{IsNamed, names_in_view, own_names};
-ghost use Rattle.ioa_reasons.specs.Stops.{IsFaultyIn, IsStopIn};
+ghost use Rattle.ioa_reasons.specs.PlainReasons.{statement_place_of};
+ghost use Rattle.ioa_reasons.specs.Stops.{IsFaultyIn, IsStopIn, ReadsAll};
 
+use crate::chosen::{is_performed, stop_in_choice};
 use crate::faulty::faulty_part;
 use crate::misfits::misfit_in_assignment;
 use crate::reason::StatementPlace;
 use ioa_terms::{
-    Callee, Checked, Shape, Statement, Target, TermFault, View, evaluate_test, perform_assignment,
+    Callee, Checked, Choice, Shape, Statement, Target, TermFault, View, evaluate_test,
+    perform_assignment,
 };
 use ioa_values::Value;
 use std::alloc::{AllocError, Global};
@@ -27,6 +30,8 @@ pub(crate) enum Stop<'a> {
     At(StatementPlace<'a>, &'a Checked),
     /// They met a fault at this part, whose value has not the shape of its place.
     Misfit(StatementPlace<'a>, &'a Checked),
+    /// They met a fault behind the value that this choice yields.
+    Behind(&'a Choice<usize, Callee, Shape>),
 }
 
 /// What statements come to. The values that they assign are then those at the fault.
@@ -40,6 +45,7 @@ pub(crate) fn stop_of_all<'a>(
     requires resolved { AreAllResolved (statements_of (map statement_of statements.now))
         (own_names view.now (length values.old.items)) (names_in_view view.now) }
     requires named { IsNamed view.now values.old.items }
+    requires front { view.now.front.now ≡ [] }
     ensures stop { IfOk result (λ s. IsStopIn view.now values.new.items s) }
     ensures kept { length values.new.items ≡ length values.old.items }
 {
@@ -63,6 +69,7 @@ fn stop_of<'a>(
     requires resolved { IsResolvedStatement (statement_of statement.now)
         (own_names view.now (length values.old.items)) (names_in_view view.now) }
     requires named { IsNamed view.now values.old.items }
+    requires front { view.now.front.now ≡ [] }
     ensures stop { IfOk result (λ s. IsStopIn view.now values.new.items s) }
     ensures kept { length values.new.items ≡ length values.old.items }
 {
@@ -81,7 +88,14 @@ fn stop_of<'a>(
             }
             stop_of_all(alloc, rest, view, values)
         }
-        Statement::While(_, _) | Statement::Fire(_) | Statement::Choose(_) => Ok(Stop::Unknown),
+        Statement::While(_, _) | Statement::Fire(_) => Ok(Stop::Unknown),
+        Statement::Choose(choice) => {
+            if is_performed(alloc, statement, view, values)? {
+                Ok(Stop::Passed)
+            } else {
+                stop_in_choice(alloc, choice, view, values)
+            }
+        }
     }
 }
 
@@ -127,7 +141,7 @@ pub(crate) fn stop_in_assignment<'a>(
 }
 
 /// The part of an assignment that has no value: of the key first.
-fn faulty_in_assignment<'a>(
+pub(crate) fn faulty_in_assignment<'a>(
     alloc: Global,
     target: &'a Target<usize, Callee, Shape>,
     term: &'a Checked,
@@ -157,6 +171,7 @@ pub(crate) fn stop_at<'a>(
     view: &View,
     values: &[Value],
 ) -> Result<Stop<'a>, AllocError>
+    requires there { ReadsAll view.now values.now (statement_place_of place) }
     requires named { IsNamed view.now values.now }
     requires resolved { IsResolved (term_of term.now) (names_in_view view.now) }
     ensures stop { IfOk result (λ s. IsStopIn view.now values.now s) }

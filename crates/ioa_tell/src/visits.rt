@@ -350,7 +350,9 @@ fn tell_fault<O: Origin, T: Tells>(
     ensures { OnOk result (TellsOn T.hears book.now book.now [] [] out.old out.new []) }
 {
     match fault {
-        NodeFault::Undefined | NodeFault::Range => tell_own_fault(alloc, book, look, action, out),
+        NodeFault::Undefined | NodeFault::Range | NodeFault::NoChoice => {
+            tell_own_fault(alloc, book, look, action, out)
+        }
         _ => Ok(()),
     }
 }

@@ -15,7 +15,7 @@ use crate::tests::push_values;
 use ioa_paper::Paper;
 use ioa_reasons::{Fault, Place, StatementPlace};
 use ioa_streams::Out;
-use ioa_terms::{Callee, Checked, Shape, Target};
+use ioa_terms::{Callee, Checked, Choice, Shape, Target};
 use ioa_values::{Names, Value, Word, push_shown};
 use std::alloc::{AllocError, Global};
 
@@ -30,8 +30,7 @@ pub(crate) fn stop_text(
         (λ t. t ≡ spec.stop_text names.now (place_of place.entry) (fault_of fault.entry)) }
 {
     let mut out = String::new(alloc);
-    push_place(&mut out, place)?;
-    push_fault(alloc, &mut out, names, fault)?;
+    push_stop(alloc, &mut out, names, place, fault)?;
     Ok(KeptText::new(out))
 }
 
@@ -46,20 +45,83 @@ pub(crate) fn stuck_text(
         (λ t. t ≡ spec.stuck_text names.now (statement_place_of place.entry) (fault_of fault.entry)) }
 {
     let mut out = String::new(alloc);
-    push_statement_place(&mut out, place)?;
-    push_fault(alloc, &mut out, names, fault)?;
+    push_stuck(alloc, &mut out, names, place, fault)?;
     Ok(KeptText::new(out))
 }
 
-/// Writes what of a step stops.
-fn push_place(out: &mut String, place: Place<'_>) -> Result<(), AllocError>
-    ensures { OnOk result (Writes out.old out.new (spec.place_text (place_of place.entry))) }
+/// Writes at which part a step stops.
+fn push_stop(
+    alloc: Global,
+    out: &mut String,
+    names: &Names,
+    place: Place<'_>,
+    fault: Fault<'_>,
+) -> Result<(), AllocError>
+    ensures { OnOk result
+        (Writes out.old out.new (spec.stop_text names.now (place_of place.entry) (fault_of fault.entry))) }
 {
     match place {
-        Place::Condition => out.push_str("its where"),
-        Place::Guard => out.push_str("its guard"),
-        Place::Effect(place) => push_statement_place(out, place),
+        Place::Condition => {
+            out.push_str("its where")?;
+            push_fault(alloc, out, names, fault)
+        }
+        Place::Guard => {
+            out.push_str("its guard")?;
+            push_fault(alloc, out, names, fault)
+        }
+        Place::Effect(place) => push_stuck(alloc, out, names, place, fault),
     }
+}
+
+/// Writes at which part a statement stops, or that its choice is not allowed.
+fn push_stuck(
+    alloc: Global,
+    out: &mut String,
+    names: &Names,
+    place: StatementPlace<'_>,
+    fault: Fault<'_>,
+) -> Result<(), AllocError>
+    ensures { OnOk result (Writes out.old out.new
+        (spec.stuck_text names.now (statement_place_of place.entry) (fault_of fault.entry))) }
+{
+    if is_refused(place, fault.value) {
+        push_refused(alloc, out, names, fault)
+    } else {
+        push_statement_place(out, place)?;
+        push_fault(alloc, out, names, fault)
+    }
+}
+
+/// Whether it is the condition of a choice that stops, and has a value.
+fn is_refused(place: StatementPlace<'_>, value: Option<&Value>) -> bool
+    ensures { result ≡ spec.is_refused (statement_place_of place.entry) (option_copied value.entry) }
+{
+    match place {
+        StatementPlace::Assigned(_, _)
+        | StatementPlace::Tested(_)
+        | StatementPlace::Repeated(_)
+        | StatementPlace::Fired(_)
+        | StatementPlace::Chosen(_) => false,
+        StatementPlace::Allowed(_) => match value {
+            None => false,
+            Some(_) => true,
+        },
+    }
+}
+
+/// Writes that a choice is not allowed: this part of its condition is false.
+fn push_refused(
+    alloc: Global,
+    out: &mut String,
+    names: &Names,
+    fault: Fault<'_>,
+) -> Result<(), AllocError>
+    ensures { OnOk result (Writes out.old out.new (spec.refused_text names.now (fault_of fault.entry))) }
+{
+    out.push_str("its choice is not allowed: ")?;
+    push_term(out, fault.part)?;
+    out.push_str(" is false")?;
+    push_values(alloc, out, names, fault.values)
 }
 
 /// Writes the part at which something stops with the values of its names, and its own value, if it has one.
@@ -115,7 +177,7 @@ pub(crate) fn unfit_text(
     Ok(KeptText::new(out))
 }
 
-/// Writes a statement without the bodies that it has.
+/// Writes a statement without the bodies that it has; of a choice the term or the condition that stops.
 fn push_statement_place(out: &mut String, place: StatementPlace<'_>) -> Result<(), AllocError>
     ensures { OnOk result (Writes out.old out.new
         (spec.statement_place_text (statement_place_of place.entry))) }
@@ -139,7 +201,27 @@ fn push_statement_place(out: &mut String, place: StatementPlace<'_>) -> Result<(
             out.push_str(firing.action.as_str())?;
             push_arguments(out, &firing.arguments)
         }
+        StatementPlace::Chosen(choice) => {
+            push_choice(out, choice)?;
+            out.push_str(" yield ")?;
+            push_term(out, &choice.yields)
+        }
+        StatementPlace::Allowed(choice) => {
+            push_choice(out, choice)?;
+            out.push_str(" where ")?;
+            push_term(out, &choice.condition)
+        }
     }
+}
+
+/// Writes what a choice assigns, and the name of its value.
+fn push_choice(out: &mut String, choice: &Choice<usize, Callee, Shape>) -> Result<(), AllocError>
+    ensures { OnOk result (Writes out.old out.new
+        (spec.choice_text (target_of choice.now.target) choice.now.name)) }
+{
+    push_target(out, &choice.target)?;
+    out.push_str(" := choose ")?;
+    out.push_str(choice.name.as_str())
 }
 
 /// Writes a target.
