@@ -28,6 +28,10 @@ pair_text first left second right = first ++ (found_text left ++ (second ++ foun
 abbrev pub asked_text : List ℕ → Option PlainShape → List ℕ
 asked_text asked found = codes "asked for: " ++ (asked ++ (codes "; found: " ++ found_text found))
 
+-- the sorts of what a choice takes
+abbrev pub simple_text : List ℕ
+simple_text = codes "Bool, Int, Nat or an enumeration"
+
 -- how many arguments are asked for, and how many are found
 abbrev pub count_text : List ℕ → ℕ → ℕ → List ℕ
 count_text name asked found =

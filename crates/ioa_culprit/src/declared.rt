@@ -128,8 +128,18 @@ pub(crate) fn declare(
     table: &mut NameTable,
     declared: &Declared<()>,
 ) -> Result<(), Halt> {
-    let name = declared.name.try_copy(ask.alloc)?;
-    let shape = ask.shape_of(&declared.sort)?;
+    declare_as(ask, table, &declared.name, &declared.sort)
+}
+
+/// Puts a name of a sort, both of which were passed, behind those of a table.
+pub(crate) fn declare_as(
+    ask: &Ask<'_>,
+    table: &mut NameTable,
+    name: &Word,
+    sort: &Sort,
+) -> Result<(), Halt> {
+    let name = name.try_copy(ask.alloc)?;
+    let shape = ask.shape_of(sort)?;
     ask.declare(table, name, shape)
 }
 

@@ -10,6 +10,7 @@
 mod asking;
 mod automaton;
 mod block;
+mod choices;
 mod cut;
 mod declared;
 mod finding;

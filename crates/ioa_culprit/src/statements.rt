@@ -1,6 +1,7 @@
 //! Walks over statements.
 
 use crate::asking::Ask;
+use crate::choices::pass_choice;
 use crate::halt::{Halt, halt_of};
 use crate::heading::Heading;
 use crate::rules::shapes_taken;
@@ -58,7 +59,7 @@ fn pass_statement(
             pass_statements(walk, site, body)
         }
         Statement::Fire(firing) => pass_firing(walk, site, firing),
-        Statement::Choose(_) => Err(Halt::Lost),
+        Statement::Choose(choice) => pass_choice(walk, site, choice),
     }
 }
 
@@ -100,7 +101,7 @@ fn pass_assignment(
 }
 
 /// Passes the target of an assignment. Returns the shape of what is assigned to it.
-fn pass_target(
+pub(crate) fn pass_target(
     walk: &mut Walk<'_>,
     site: &Site<'_>,
     target: &Target<(), (), ()>,

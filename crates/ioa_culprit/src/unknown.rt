@@ -97,6 +97,14 @@ pub(crate) fn unknown_words(
     Ok(words)
 }
 
+/// What is said of a new name that is in view.
+pub(crate) fn taken_words(alloc: Global, name: &Word) -> Result<Vec<u8>, AllocError> {
+    let mut words = Vec::new(alloc);
+    push_quoted(&mut words, name.as_str())?;
+    words.extend_from_slice(b" is in view here already")?;
+    Ok(words)
+}
+
 /// Adds a name as texts quote it.
 pub(crate) fn push_quoted(words: &mut Vec<u8>, name: &str) -> Result<(), AllocError> {
     words.extend_from_slice(b"`")?;

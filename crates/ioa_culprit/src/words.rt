@@ -1,6 +1,6 @@
 //! What is found in the place of what was asked for, in words: sorts, and how many arguments there are.
 
-ghost use Rattle.std.specs.Prelude.{◌≡◌, ◌++◌, IfOk, OnOk};
+ghost use Rattle.std.specs.Prelude.{◌≡◌, ◌++◌, IfOk, OnOk, Some};
 ghost use Rattle.std.specs.Option.{option_map};
 ghost use Rattle.ioa_culprit.specs.SortTexts as spec;
 
@@ -133,6 +133,30 @@ pub(crate) fn misfit_words(
     push_sort(&mut asked, want)?;
     let found = sort_found(alloc, view, term)?;
     asked_words(alloc, &asked, &found)
+}
+
+/// What is said of a sort at the place of another.
+pub(crate) fn place_words(alloc: Global, want: &Shape, sort: &Shape) -> Result<Vec<u8>, AllocError>
+    ensures { IfOk result (λ words. words.items ≡ spec.asked_text (spec.sort_text want.now) (Some sort.now)) }
+{
+    let mut asked = Vec::new(alloc);
+    push_sort(&mut asked, want)?;
+    sort_words(alloc, &asked, sort)
+}
+
+/// What is said of a sort that has other values than a choice takes.
+pub(crate) fn simple_words(alloc: Global, sort: &Shape) -> Result<Vec<u8>, AllocError>
+    ensures { IfOk result (λ words. words.items ≡ spec.asked_text spec.simple_text (Some sort.now)) }
+{
+    sort_words(alloc, b"Bool, Int, Nat or an enumeration", sort)
+}
+
+/// What is asked for, and the sort that is found.
+fn sort_words(alloc: Global, asked: &[u8], sort: &Shape) -> Result<Vec<u8>, AllocError>
+    ensures { IfOk result (λ words. words.items ≡ spec.asked_text asked.now (Some sort.now)) }
+{
+    let found = Some(sort.try_copy(alloc)?);
+    asked_words(alloc, asked, &found)
 }
 
 /// What is said of a call of `queue`.

@@ -16,7 +16,7 @@ pub(crate) enum Kind {
 }
 
 /// The kinds of tokens that texts can have, and the end, in the order in which they are told.
-pub(crate) static KINDS: [Kind; 73] = [
+pub(crate) static KINDS: [Kind; 75] = [
     Kind::Mark(Mark::Comma),
     Kind::Mark(Mark::Semicolon),
     Kind::Mark(Mark::Colon),
@@ -63,6 +63,8 @@ pub(crate) static KINDS: [Kind; 73] = [
     Kind::Mark(Mark::Transitions),
     Kind::Mark(Mark::Pre),
     Kind::Mark(Mark::Eff),
+    Kind::Mark(Mark::Choose),
+    Kind::Mark(Mark::Yield),
     Kind::Mark(Mark::Schedule),
     Kind::Mark(Mark::If),
     Kind::Mark(Mark::Then),
