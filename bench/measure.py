@@ -34,6 +34,7 @@ class Plan:
 PLANS = {
     "ticking": Plan(64, GREATEST, (8, 64), GREATEST),
     "alone": Plan(999_999, GREATEST, (1_000, 10_000), GREATEST),
+    "choosing": Plan(100_000, GREATEST, (1_000, 10_000), GREATEST),
     "ring": Plan(16, 50_000, (2, 16), 1_000),
     "queue": Plan(10_000, GREATEST, (100, 1_000), GREATEST),
     "sequence": Plan(10_000, GREATEST, (100, 1_000), GREATEST),

@@ -99,6 +99,13 @@ def alone(size):
     return TICKER + nodes([f"Ticker({size})"])
 
 
+def choosing(size):
+    """One node that ticks SIZE times, and chooses its next count each time."""
+    choice = "count := choose v: Int where v > count yield count + 1"
+    chooser = [line.replace("count := count + 1", choice) for line in TICKER]
+    return chooser + nodes([f"Ticker({size})"])
+
+
 def ring(size):
     """SIZE nodes in a ring, which pass a token on without end."""
     stations = [f"Station({node}, {(node - 1) % size}, {(node + 1) % size})" for node in range(size)]
@@ -131,7 +138,10 @@ def computing(size):
     return COMPUTER + nodes(["Computer(100)"] * size)
 
 
-KINDS = {kind.__name__: kind for kind in (ticking, alone, ring, queue, sequence, waiting, idling, computing)}
+KINDS = {
+    kind.__name__: kind
+    for kind in (ticking, alone, choosing, ring, queue, sequence, waiting, idling, computing)
+}
 
 if __name__ == "__main__":
     if len(sys.argv) != 3 or sys.argv[1] not in KINDS or not sys.argv[2].isdigit():
