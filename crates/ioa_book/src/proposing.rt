@@ -22,8 +22,8 @@ use std::alloc::{AllocError, Global};
 use std::mem;
 use std::sync::Arc;
 
-/// The proposal of the action of an entry whose one participant was read so. A fault of the participant's own step is returned.
-/// `rule_number` is that of the action's rule in the node's program, if it is known.
+/// The proposal of the action of an entry whose one participant was read so. A fault of the participant's own step is
+/// returned. `rule_number` is that of the action's rule in the node's program, if it is known.
 #[inline(always)]
 #[tactic(auto, using(crate::proofs::PickedParts::one_steps))]
 pub(crate) fn proposal_of_one<O: Origin>(
@@ -46,8 +46,8 @@ pub(crate) fn proposal_of_one<O: Origin>(
     Ok(Proposal::new(entry, again, length, None, node))
 }
 
-/// The proposal of the action of an entry whose two participants were read so. The first fault of their own steps is returned,
-/// the queue's first.
+/// The proposal of the action of an entry whose two participants were read so. The first fault of their own steps is
+/// returned, the queue's first.
 #[tactic(auto, using(crate::proofs::PickedParts::two_steps))]
 pub(crate) fn proposal_of_two<O: Origin>(
     alloc: Global,

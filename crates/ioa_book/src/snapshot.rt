@@ -141,10 +141,10 @@ impl<O: Origin> Snapshot<O> {
         None
     }
 
-    /// A proposal to take the action of an entry on what was read; what that entry chose does not count. `NotMine` (41) if the action is another node's than the one
-    /// looked at; `NoChannel` (42) if a participant was not read; else the first fault of the participants' own steps,
-    /// the queue's first. The snapshot stays as it is. The entry is only lent: the proposal and the log own it beside
-    /// whoever lent it, and of one that is no step nothing is copied.
+    /// A proposal to take the action of an entry on what was read; what that entry chose does not count. `NotMine` (41)
+    /// if the action is another node's than the one looked at; `NoChannel` (42) if a participant was not read; else the
+    /// first fault of the participants' own steps, the queue's first. The snapshot stays as it is. The entry is only
+    /// lent: the proposal and the log own it beside whoever lent it, and of one that is no step nothing is copied.
     pub fn propose(&self, alloc: Global, fired: &Entry) -> Result<Proposal<O>, StepFault>
         ensures { Answers StepFault.Memory (λ p. p) result (spec.proposal_answer fired.now.action self.now) }
     {

@@ -1,5 +1,5 @@
 -- What the runtime returns for a queue is its step.
-use Rattle.std.proofs.Common.{◌≡◌, List, ◌∷◌, Result, Ok, Err, refl, sym, ap}
+use Rattle.std.proofs.Common.{◌≡◌, List, Result, Ok, Err, refl, sym, ap}
 use Rattle.std.specs.Prelude.{◌↔◌}
 use Rattle.ioa_values.specs.Outcome.{and_then}
 use Rattle.ioa_actions.specs.declared.component.ChannelKind.{ChannelKind}

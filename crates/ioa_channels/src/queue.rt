@@ -155,7 +155,7 @@ impl Queue {
     }
 
     /// Its items in two lists: the stimuli that are left, and the messages behind them, each first to last.
-    pub fn parts(&self) -> (&[NodeAction], &Sequence)
+    pub fn items(&self) -> (&[NodeAction], &Sequence)
         ensures { self.now.items ≡ queue_items result.0.now result.1.now }
     {
         (self.head.as_slice(), &self.messages)

@@ -43,7 +43,8 @@ abbrev pub HandsOut : List Conf → List PlainEntry → List Conf → Type 0
 HandsOut start entries confs =
     (i j : ℤ) (q : QueueState) → find_conf (Channel i j) start ≡ Some (Queue q) →
     (r : QueueState) × (find_conf (Channel i j) confs ≡ Some (Queue r))
-    × IsHandedOut q.kind q.items (messages_sent i j (actions_of entries)) (messages_received i j (actions_of entries)) r.items
+    × IsHandedOut q.kind q.items (messages_sent i j (actions_of entries))
+    (messages_received i j (actions_of entries)) r.items
 
 -- each channel that was empty has handed out, in order, a first part of what was sent on it, and holds the rest (Lynch
 -- 14.1); one that keeps no order has handed out and holds each message as often as it was sent (profile)
@@ -51,7 +52,8 @@ abbrev pub HandsOutFromEmpty : List Conf → List PlainEntry → List Conf → T
 HandsOutFromEmpty start entries confs =
     (i j : ℤ) (q : QueueState) → find_conf (Channel i j) start ≡ Some (Queue q) → q.items ≡ [] →
     (r : QueueState) × (find_conf (Channel i j) confs ≡ Some (Queue r))
-    × IsHandedOut q.kind [] (messages_sent i j (actions_of entries)) (messages_received i j (actions_of entries)) r.items
+    × IsHandedOut q.kind [] (messages_sent i j (actions_of entries))
+    (messages_received i j (actions_of entries)) r.items
 
 -- a declared channel delivers: it has handed out, in order, a beginning of what was sent on it, and its queue holds the
 -- rest (Lynch 14.1); one declared `unordered` has handed out and holds each message as often as it was sent (profile)

@@ -270,7 +270,8 @@ abbrev pub placement_spelling : Placement → List Token
 placement_spelling (node n) =
     token.Mark mark.Node ∷ token.Number n.number ∷ token.Mark mark.Colon ∷ call_spelling n.automaton n.arguments
 placement_spelling (channel c) =
-    token.Mark mark.Channel ∷ token.Number c.from ∷ token.Mark mark.Arrow ∷ token.Number c.to ∷ channel_kind_spelling c.kind
+    token.Mark mark.Channel ∷ token.Number c.from ∷ token.Mark mark.Arrow ∷ token.Number c.to
+    ∷ channel_kind_spelling c.kind
 placement_spelling (script s) =
     token.Mark mark.Script ∷ token.Number s.node ∷ token.Mark mark.Colon ∷ calls_spelling s.calls
 

@@ -9,7 +9,7 @@
 #![tactic(auto)]
 
 ghost use Rattle.std.specs.Prelude.{◌≡◌, codes};
-ghost use Rattle.ioa_streams.specs.declared.input.TheConstants.{INPUT_LIMIT};
+ghost use Rattle.ioa_streams.specs.declared.input.TheConstants.{INPUT_LIMIT, SCHEDULE_LIMIT};
 ghost use Rattle.ioa_text_reader.specs.Texts.{length_limit};
 ghost use Rattle.ioa_term_reader.specs.declared.reading.TheConstants.{BRACKET_LIMIT};
 ghost use Rattle.ioa_source.specs.declared.height.TheConstants.{HEIGHT_LIMIT};
@@ -25,6 +25,7 @@ ghost use Rattle.ioa_actions.specs.declared.action.TheConstants.{SEND, RECEIVE};
 /// (profile): lengths in bytes, heights in levels, steps in actions, attempts in turns of a node.
 pub fn limits_law()
     ensures input { INPUT_LIMIT ≡ 8388608 }
+    ensures schedule { SCHEDULE_LIMIT ≡ 134217728 }
     ensures text { length_limit ≡ 1048576 }
     ensures brackets { BRACKET_LIMIT ≡ 128 }
     ensures heights { HEIGHT_LIMIT ≡ 64 }

@@ -146,7 +146,8 @@ mutual
     fire_statement : {f : Firing} {xs ys : List Token} → SpellsFiring f xs ys →
         SpellsStatement Block (fire f) (token.Mark mark.Fire ∷ xs) ys
     choosing : {p : Target} {w : List ℕ} {s : PlainSort} {t u : Term} {xs ys zs us vs : List Token} →
-        SpellsTarget p xs (token.Mark mark.Assign ∷ token.Mark mark.Choose ∷ token.Word w ∷ token.Mark mark.Colon ∷ ys) →
+        SpellsTarget p xs
+        (token.Mark mark.Assign ∷ token.Mark mark.Choose ∷ token.Word w ∷ token.Mark mark.Colon ∷ ys) →
         SpellsSort bracket_limit s ys (token.Mark mark.Where ∷ zs) →
         SpellsTerm bracket_limit t zs (token.Mark mark.Yield ∷ us) → SpellsTerm bracket_limit u us vs →
         SpellsStatement Effect (terms.choosing (terms.choice_with p w s tt t u)) xs vs
@@ -262,8 +263,8 @@ pub data SpellsPlacement : Placement → List Token → List Token → Type 0 wh
       (token.Mark mark.Channel ∷ token.Number i ∷ token.Mark mark.Arrow ∷ token.Number j ∷ xs) xs
   unordered : {i j : ℤ} {xs : List Token} →
       SpellsPlacement (plain.channel (record { from = i; to = j; kind = Unordered }))
-      (token.Mark mark.Channel ∷ token.Number i ∷ token.Mark mark.Arrow ∷ token.Number j ∷ token.Mark mark.Unordered ∷ xs)
-      xs
+      (token.Mark mark.Channel ∷ token.Number i ∷ token.Mark mark.Arrow ∷ token.Number j
+      ∷ token.Mark mark.Unordered ∷ xs) xs
   script : {n : ℤ} {calls : List Call} {xs ys : List Token} → SeparatedBy mark.Comma SpellsCall calls xs ys →
       SpellsPlacement (plain.script (record { node = n; calls = calls }))
       (token.Mark mark.Script ∷ token.Number n ∷ token.Mark mark.Colon ∷ xs) ys

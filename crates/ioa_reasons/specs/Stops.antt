@@ -33,7 +33,8 @@ pub record IsFaultyAt (v : View) (vs : List Data) (place : PlainStatementPlace) 
   pub faulty : IsFaultyIn v vs t
 
 -- a part has a value there, which has not the shape that is asked for where an assignment of a term puts it
-pub record IsMisfitPut (v : View) (vs : List Data) (p : PlainTarget ℕ Callee Shape) (t part : CheckedTerm) : Type 0 where
+pub record IsMisfitPut
+    (v : View) (vs : List Data) (p : PlainTarget ℕ Callee Shape) (t part : CheckedTerm) : Type 0 where
   pub shape : PlainShape
   pub puts : PutsAt p t part shape
   pub misfit : is_misfit shape (answer part (environment_of v vs)) ≡ true
@@ -52,8 +53,8 @@ pub record IsChoiceIn (v : View) (vs : List Data) (c : PlainChoice ℕ Callee Sh
   pub front : v.front.now ≡ []
   pub resolved : IsResolvedChoice c (own_names v (length vs)) (names_in_view v)
 
--- the part at which statements stop, if it is told, has no value there, or one that is not of the sort of its place; and
--- a choice that stops behind its value is seen there
+-- the part at which statements stop, if it is told, has no value there, or one that is not of the sort of its place;
+-- and a choice that stops behind its value is seen there
 abbrev pub IsStopIn : View → List Data → Stop → Type 0
 IsStopIn v vs Passed = Unit {0}
 IsStopIn v vs Unknown = Unit {0}

@@ -15,7 +15,8 @@ plain_options workers steps attempts = record { workers = workers; steps = steps
 -- workers from 1, steps from 0, attempts from 1, each up to its greatest number
 abbrev pub AreInRange : ℕ → ℕ → ℕ → Type 0
 AreInRange workers steps attempts =
-    (1 ≤ workers) × (workers ≤ GREATEST_WORKERS) × (steps ≤ GREATEST_STEPS) × (1 ≤ attempts) × (attempts ≤ GREATEST_ATTEMPTS)
+    (1 ≤ workers) × (workers ≤ GREATEST_WORKERS) × (steps ≤ GREATEST_STEPS)
+    × (1 ≤ attempts) × (attempts ≤ GREATEST_ATTEMPTS)
 
 -- the options if none are given
 abbrev pub default_options : PlainOptions

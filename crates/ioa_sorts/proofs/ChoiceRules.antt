@@ -1,5 +1,5 @@
 -- What is asked of a choice: a simple shape, which the target holds, and a new name.
-use Rattle.std.proofs.Common.{◌≡◌, ℕ, Bool, true, false, nat_lt, if◌then◌else◌, IfOk, List, Option, Some, None, Result, Ok, Err, refl, ap, subst, sym}
+use Rattle.std.proofs.Common.{◌≡◌, ℕ, Bool, true, false, nat_lt, if◌then◌else◌, IfOk, List, Option, Some, None, Result, Ok, Err, refl, ap, subst}
 use Rattle.std.specs.Option.{is_some}
 use Rattle.ioa_values.specs.Outcome.{and_then}
 use Rattle.ioa_operators.specs.Shapes.{PlainShape, truths, integers, naturals, constants, tuples, sequences, sets, maps}
@@ -9,7 +9,7 @@ use Rattle.ioa_terms.specs.PlainSort as sort
 use Rattle.ioa_terms.specs.PlainSort.{PlainSort}
 use Rattle.ioa_terms.specs.Sorted.{NameShapes, shape_named}
 use Rattle.ioa_refusals.specs.declared.refusal.Refusal.{Refusal}
-use Rattle.ioa_refusals.specs.declared.refusal.Refusal.TheVariants.{Unknown, Twice, Sorts, Limit, EmptyOfWhat}
+use Rattle.ioa_refusals.specs.declared.refusal.Refusal.TheVariants.{Twice, Sorts, Limit, EmptyOfWhat}
 use Rattle.ioa_sort_rules.specs.SameSorts.{same_sort}
 use Rattle.ioa_sort_rules.specs.DeclaredTypes.{TupleTypes, IsDeclared}
 use Rattle.ioa_types.specs.TypeTables.{TypeTable, limited, known_type, shape_of_sort}

@@ -1,6 +1,6 @@
 -- The sorts of statements (profile): each assigned term has the shape of its target, each test is a truth value, each
--- firing is of an action with its arguments, and each chosen value has a simple shape. Only a schedule block has `while`
--- and `fire`, and only an effect has choices.
+-- firing is of an action with its arguments, and each chosen value has a simple shape. Only a schedule block has
+-- `while` and `fire`, and only an effect has choices.
 use Rattle.std.specs.Prelude.{ℕ, Bool, if◌then◌else◌, List, [], ◌∷◌, Option, Some, None, Result, Ok, Err}
 use Rattle.std.specs.Option.{is_some}
 use Rattle.ioa_values.specs.Outcome.{and_then}
@@ -112,7 +112,8 @@ abbrev pub SortedChoice : Type 0
 SortedChoice = PlainChoice ℕ Callee Shape
 
 -- the condition of a choice and the term that yields its value: only the condition reads the value too
-unfoldable pub terms_sorting : PlainStatementSite → SourceChoice → SortedTarget → PlainShape → Result SortedChoice Refusal
+unfoldable pub terms_sorting :
+    PlainStatementSite → SourceChoice → SortedTarget → PlainShape → Result SortedChoice Refusal
 terms_sorting s c p d = and_then (fit (sorting ((Word c.name, d) ∷ s.names) c.condition) truths)
     (λ t. and_then (fit (sorting s.names c.yields) (shape_in_terms d)) (λ u. Ok (choice_with p c.name c.sort d t u)))
 

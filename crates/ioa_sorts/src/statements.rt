@@ -21,11 +21,11 @@ use std::alloc::Global;
 
 /// The statements with the slot of each name and the shape of each display and of each target's variable. Returns what
 /// `fit` does, `Unknown` (20) if a target is no variable or has no such field, if a firing names no entry, if a choice
-/// names no type, for a choice in a schedule block, or for a `while` that is not in one, `ScheduleAssignsState` (26) if a
-/// schedule block assigns a state variable, `Twice` (21) if the name of a chosen value is in view, and `Sorts` (22) if a
-/// target has no keys or no fields, if a term or a choice has another sort than its target, if a term is tested and no
-/// truth value, or if the values of a choice are neither truth values nor numbers nor constants. The first refusal in the
-/// text's order is returned; of a choice the sort comes before the name.
+/// names no type, for a choice in a schedule block, or for a `while` that is not in one, `ScheduleAssignsState` (26) if
+/// a schedule block assigns a state variable, `Twice` (21) if the name of a chosen value is in view, and `Sorts` (22) if
+/// a target has no keys or no fields, if a term or a choice has another sort than its target, if a term is tested and no
+/// truth value, or if the values of a choice are neither truth values nor numbers nor constants. The first refusal in
+/// the text's order is returned; of a choice the sort comes before the name.
 #[cycle(sorting_statements)]
 pub fn sort_statements(
     alloc: Global,

@@ -150,6 +150,6 @@ fn is_queue_of(conf: &Conf, component: Component, kind: ChannelKind, stimuli: &[
 fn has_stimuli(queue: &Queue, stimuli: &[NodeAction]) -> bool
     ensures { result ≡ pointwise same_item queue.now.items (map Item.Stimulus stimuli.now) }
 {
-    let (left, messages) = queue.parts();
+    let (left, messages) = queue.items();
     left == stimuli && messages.is_empty()
 }

@@ -63,8 +63,8 @@ impl Entry {
         Ok(Entry { step })
     }
 
-    /// The entry of a step by the same action whose effect chose the values that were yielded. It is this one, and takes
-    /// no memory, if there are none.
+    /// The entry of a step by the same action whose effect chose the values that were yielded. It is this one, and
+    /// takes no memory, if there are none.
     #[inline(always)]
     pub fn with_choices(self, alloc: Global, choices: Choices) -> Result<Self, AllocError>
         ensures { IfOk result (λ e. e ≡ entry self.action (made_values (source_of choices.entry))) }

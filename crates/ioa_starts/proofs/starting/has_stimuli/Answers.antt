@@ -5,12 +5,12 @@ use Rattle.ioa_starts.proofs.starting.has_stimuli.Goals as goal
 -- the stimuli are the same, so the messages decide
 pub returns-then-eq : goal.returns-then-eq
 returns-then-eq c =
-    same_stimuli_by c.args.queue.now.items c.parts.result.0.now c.args.stimuli.now c.parts.result.1.now true c.is_empty.result
-    c.parts.ensures (search rules) c.is_empty.ensures
+    same_stimuli_by c.args.queue.now.items c.items.result.0.now c.args.stimuli.now c.items.result.1.now true c.is_empty.result
+    c.items.ensures (search rules) c.is_empty.ensures
 
 -- the stimuli differ
 pub returns-else-eq : goal.returns-else-eq
 returns-else-eq c =
     c.if-eq.false
-    ∙ same_stimuli_by c.args.queue.now.items c.parts.result.0.now c.args.stimuli.now c.parts.result.1.now
-    false (length c.parts.result.1.now == 0) c.parts.ensures (search rules) refl
+    ∙ same_stimuli_by c.args.queue.now.items c.items.result.0.now c.args.stimuli.now c.items.result.1.now
+    false (length c.items.result.1.now == 0) c.items.ensures (search rules) refl
