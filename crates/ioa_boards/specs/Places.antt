@@ -5,20 +5,23 @@ use Rattle.ioa_commits.specs.Books.{PlainBook}
 use Rattle.ioa_passes.specs.Looks.{view_answer}
 use Rattle.ioa_passes.specs.Passes.{PlainPass, risen_by_look}
 use Rattle.ioa_shared.specs.SomeBook.{LooksAtSome}
+use Rattle.ioa_system.specs.Systems.{SystemParts}
 use Rattle.ioa_passes.specs.declared.outcome.ViewFault.{ViewFault}
 use Rattle.ioa_passes.specs.declared.outcome.ViewFault.TheVariants.{Memory}
 
--- a look at some lawful book is in its place, and the pass has risen to it
-pub record SeesSome (p : PlainPass) (n : ℤ) (place : Option PlainSnapshot) (q : PlainPass) : Type 0 where
-  pub seen : PlainSnapshot
-  pub put : place ≡ Some seen
-  pub some : LooksAtSome p n (Ok seen)
-  pub risen : q ≡ risen_by_look seen p
+-- a look at some lawful book that begins at the start of a system is in its place, and the pass has risen to it
+pub record SeesSome (s : SystemParts) (p : PlainPass) (n : ℤ) (place : Option PlainSnapshot) (q : PlainPass) : Type 0
+  where
+    pub seen : PlainSnapshot
+    pub put : place ≡ Some seen
+    pub some : LooksAtSome s p n (Ok seen)
+    pub risen : q ≡ risen_by_look seen p
 
 -- what comes of a look that is to be put there: after a fault the pass is as it was
-abbrev pub PutsSome : {U : Type 0} → PlainPass → ℤ → Option PlainSnapshot → PlainPass → Result U ViewFault → Type 0
-PutsSome p n place q (Ok u) = SeesSome p n place q
-PutsSome p n place q (Err f) = LooksAtSome p n (Err f) × (q ≡ p)
+abbrev pub PutsSome :
+    {U : Type 0} → SystemParts → PlainPass → ℤ → Option PlainSnapshot → PlainPass → Result U ViewFault → Type 0
+PutsSome s p n place q (Ok u) = SeesSome s p n place q
+PutsSome s p n place q (Err f) = LooksAtSome s p n (Err f) × (q ≡ p)
 
 -- a look at this book is in its place
 pub record Sees (b : PlainBook) (p : PlainPass) (n : ℤ) (place : Option PlainSnapshot) : Type 0 where

@@ -41,6 +41,14 @@ impl<O: Origin> Place<O> {
         Ok(Place { room })
     }
 
+    /// Lets the look go that is there. It is called after faults alone, so it has a function of its own.
+    #[inline(never)]
+    pub(crate) fn clear(&mut self)
+        ensures { self.new ≡ None }
+    {
+        *self.room = None;
+    }
+
     /// The look that is there.
     pub fn look(&self) -> Option<&Snapshot<O>>
         ensures { option_copied result ≡ self.now }

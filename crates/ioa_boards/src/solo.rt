@@ -1,7 +1,9 @@
 //! The board of one worker.
 
-ghost use Rattle.std.specs.Prelude.{◌≡◌, ◌+◌, IfErr, IfOk, IfSome, IsSome, IsTrue, None, OnSome, Some, true};
+ghost use Rattle.std.specs.Prelude.{◌≡◌, ◌+◌, ◌%◌, IfErr, IfOk, IfSome, IsSome, IsTrue, None, OnErr, OnSome, Some};
+ghost use Rattle.std.specs.Prelude.{if◌then◌else◌, length, nat_eq, true};
 ghost use Rattle.ioa_boards.specs.Places.{IsSeenAgain, Puts, PutsSome};
+ghost use Rattle.ioa_compose.specs.Start.{start};
 ghost use Rattle.ioa_held.specs.Attempts.{IsMissed, IsTaken, commits};
 ghost use Rattle.ioa_held.specs.Openings.{BeginsAt};
 ghost use Rattle.ioa_shared.specs.SomeBook.{MissesInSome, TakesInSome};
@@ -13,22 +15,25 @@ use ioa_book::Proposal;
 use ioa_held::{Missed, Share, Taken};
 use ioa_passes::{Pass, ViewFault};
 use ioa_rawlog::Spare;
-use ioa_shared::Solo;
-use ioa_sharing::{Origin, SharedOf};
+use ioa_shared::{Opening, Solo};
+use ioa_sharing::SharedOf;
 use ioa_system::System;
 use ioa_transitions::Entry;
 use std::alloc::Global;
 use std::sync::ledger::Ledger;
 
-impl<O: Origin, L: Ledger> Board<O, L> for Solo<O, L> {
+impl<O: Opening, L: Ledger> Board<O, L> for Solo<O, L> {
     ghost use Rattle.std.specs.Prelude.{true};
 
     ghost told = { true };
 
     ghost tells = { λ s. s };
 
+    ghost opened = { O.system };
+
     fn is_opened_with(&self, system: &SharedOf<O, System, Global>) -> bool
-        ensures { IsTrue result → BeginsAt (shared_of_value system.now) self.now }
+        ensures same { IsTrue result → start (shared_of_value system.now) ≡ start O.system }
+        ensures told { IsTrue result → BeginsAt (shared_of_value system.now) self.now }
     {
         Solo::is_opened_with(self, system)
     }
@@ -41,18 +46,19 @@ impl<O: Origin, L: Ledger> Board<O, L> for Solo<O, L> {
         pass: &mut Pass,
         node: i64,
     ) -> Result<bool, ViewFault>
-        ensures some { PutsSome pass.old node place.new pass.new result }
+        ensures some { PutsSome O.system pass.old node place.new pass.new result }
         ensures told { Puts self.old pass.old node place.new result }
         ensures again { IfOk result (λ b. b ≡ true → IsSeenAgain place.old place.new) }
+        ensures emptied { OnErr result (place.new ≡ None) }
         ensures same { self.new ≡ self.old }
     {
-        if let Some(last) = &mut *place.room {
-            if last.node() == node {
-                return self.look_again(last, pass);
+        match look_in(self, alloc, place, pass, node) {
+            Ok(is_same) => Ok(is_same),
+            Err(fault) => {
+                place.clear();
+                Err(fault)
             }
         }
-        look_first(self, alloc, place, pass, node)?;
-        Ok(false)
     }
 
     #[inline(always)]
@@ -63,7 +69,7 @@ impl<O: Origin, L: Ledger> Board<O, L> for Solo<O, L> {
         share: &mut Share<L>,
     ) -> Option<Taken<O>>
         ensures taken { IfSome result (λ t. IfSome offer.old (λ x.
-            TakesInSome x pass.old t.receipt.index t.receipt.entry pass.new)) }
+            TakesInSome O.system x pass.old t.receipt.index t.receipt.entry pass.new)) }
         ensures offered { OnSome result (IsSome offer.old) }
         ensures share { OnSome result (share.new ≡ share.old + 1) }
         ensures kept { result ≡ None →
@@ -85,15 +91,19 @@ impl<O: Origin, L: Ledger> Board<O, L> for Solo<O, L> {
         requires { IsSome offer.old }
         ensures spent { offer.new ≡ None }
         ensures taken { IfSome offer.old (λ x. IfOk result.0 (λ t.
-            TakesInSome x pass.old t.receipt.index t.receipt.entry pass.new)) }
+            TakesInSome O.system x pass.old t.receipt.index t.receipt.entry pass.new)) }
         ensures missed { IfSome offer.old (λ x. IfErr result.0 (λ m.
-            MissesInSome x pass.old m.why m.proposal pass.new)) }
+            MissesInSome O.system x pass.old m.why m.proposal pass.new)) }
         ensures share { share.new ≡ share.old + commits result.0 }
+        ensures linked { IfOk result.0 (λ t.
+            result.1 ≡ (if nat_eq (t.receipt.index % 64) 0 then None else Some spare)) }
         ensures kept { IfErr result.0 (λ _. result.1 ≡ Some spare) }
         ensures told_taken { IfSome offer.old (λ x. IfOk result.0 (λ t.
             IsTaken self.old x pass.old t.receipt.index t.receipt.entry self.new pass.new)) }
         ensures told_missed { IfSome offer.old (λ x. IfErr result.0 (λ m.
             IsMissed self.old x pass.old m.why m.proposal self.new pass.new)) }
+        ensures told_linked { IfOk result.0 (λ _.
+            result.1 ≡ (if nat_eq (length self.old.log % 64) 0 then None else Some spare)) }
     {
         match offer.take() {
             Some(proposal) => Solo::attempt(self, proposal, spare, pass, share),
@@ -105,17 +115,39 @@ impl<O: Origin, L: Ledger> Board<O, L> for Solo<O, L> {
     fn rest(&self) {}
 }
 
+/// The same look, which may leave in the place what a fault left of the look that was there.
+#[inline(always)]
+fn look_in<O: Opening, L: Ledger>(
+    board: &Solo<O, L>,
+    alloc: Global,
+    place: &mut Place<O>,
+    pass: &mut Pass,
+    node: i64,
+) -> Result<bool, ViewFault>
+    ensures some { PutsSome O.system pass.old node place.new pass.new result }
+    ensures told { Puts board.now pass.old node place.new result }
+    ensures again { IfOk result (λ b. b ≡ true → IsSeenAgain place.old place.new) }
+{
+    if let Some(last) = &mut *place.room {
+        if last.node() == node {
+            return board.look_again(last, pass);
+        }
+    }
+    look_first(board, alloc, place, pass, node)?;
+    Ok(false)
+}
+
 /// The first look at a node. It has a function of its own, since a function fills the room of its large locals each
 /// time that it begins.
 #[inline(never)]
-fn look_first<O: Origin, L: Ledger>(
+fn look_first<O: Opening, L: Ledger>(
     board: &Solo<O, L>,
     alloc: Global,
     place: &mut Place<O>,
     pass: &mut Pass,
     node: i64,
 ) -> Result<(), ViewFault>
-    ensures some { PutsSome pass.old node place.new pass.new result }
+    ensures some { PutsSome O.system pass.old node place.new pass.new result }
     ensures told { Puts board.now pass.old node place.new result }
 {
     *place.room = Some(board.look(alloc, pass, node)?);

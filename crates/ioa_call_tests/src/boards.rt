@@ -1,6 +1,8 @@
 //! Boards whose book is not of the system that a worker is given.
 
 ghost use Rattle.std.specs.Prelude.{◌≡◌};
+ghost use Rattle.std.specs.Arc.{arc_value};
+ghost use Rattle.ioa_sharing.specs.Named.{shared_of_value};
 ghost use Rattle.ioa_sharing.specs.Shared.{maker_name};
 
 use crate::texts::{LEAP, TICK, system};
@@ -8,8 +10,8 @@ use ioa_boards::Open;
 use ioa_passes::Pass;
 use ioa_receipts::Receipts;
 use ioa_record::{Ending, NodeFault};
-use ioa_shared::Solo;
-use ioa_sharing::{Maker, MakerOf, Origin, SharedOf};
+use ioa_shared::{Opening, Solo};
+use ioa_sharing::{Maker, MakerOf, SharedOf};
 use ioa_solo::{Endings, Hand, work};
 use ioa_system::System;
 use std::alloc::Global;
@@ -95,7 +97,7 @@ fn fault(fault: NodeFault) -> Ending {
 }
 
 /// What a worker leaves that is given another system than its board's.
-fn left_by_another<O: Origin, L: Ledger>(
+fn left_by_another<O: Opening, L: Ledger>(
     alloc: Global,
     maker: Maker,
     blank: Blank,
@@ -104,6 +106,7 @@ fn left_by_another<O: Origin, L: Ledger>(
     pass: Pass,
 ) -> Result<Left, Fail>
     requires maker { maker_name maker ≡ O.name }
+    requires opened { (arc_value held.now ≡ O.system) × (100 ≡ O.limit) }
     requires name { blank.name ≡ L.name }
     requires parts { (blank.parts ≡ L.parts) × (L.parts ≡ 1) }
 {
@@ -114,7 +117,7 @@ fn left_by_another<O: Origin, L: Ledger>(
 }
 
 /// What a worker leaves that is given its board's own system.
-fn left_by_own<O: Origin, L: Ledger>(
+fn left_by_own<O: Opening, L: Ledger>(
     alloc: Global,
     maker: Maker,
     blank: Blank,
@@ -122,6 +125,7 @@ fn left_by_own<O: Origin, L: Ledger>(
     pass: Pass,
 ) -> Result<Left, Fail>
     requires maker { maker_name maker ≡ O.name }
+    requires opened { (arc_value system.now ≡ O.system) × (100 ≡ O.limit) }
     requires name { blank.name ≡ L.name }
     requires parts { (blank.parts ≡ L.parts) × (L.parts ≡ 1) }
 {
@@ -132,7 +136,7 @@ fn left_by_own<O: Origin, L: Ledger>(
 
 /// What a worker leaves that is given the first two nodes of a system and one that it lacks, at a book of another or of
 /// the same.
-fn left_by<O: Origin, L: Ledger>(
+fn left_by<O: Opening, L: Ledger>(
     alloc: Global,
     maker: MakerOf<O>,
     blank: Blank,
@@ -140,6 +144,7 @@ fn left_by<O: Origin, L: Ledger>(
     given: &SharedOf<O, System, Global>,
     pass: Pass,
 ) -> Result<Left, Fail>
+    requires opened { (shared_of_value held.now ≡ O.system) × (100 ≡ O.limit) }
     requires name { blank.name ≡ L.name }
     requires parts { (blank.parts ≡ L.parts) × (L.parts ≡ 1) }
 {

@@ -2,6 +2,7 @@
 //! and only with its own limit and with the shares of both.
 
 ghost use Rattle.std.specs.Prelude.{◌≡◌};
+ghost use Rattle.std.specs.Arc.{arc_value};
 ghost use Rattle.ioa_sharing.specs.Shared.{maker_name};
 
 use crate::texts::{LIST, send, sent, system};
@@ -14,7 +15,7 @@ use ioa_passes::Pass;
 use ioa_rawlog::Spare;
 use ioa_receipts::Receipts;
 use ioa_record::Record;
-use ioa_shared::{Shared, open};
+use ioa_shared::{Opening, Shared, open};
 use ioa_sharing::{Maker, MakerOf, Origin, SharedOf};
 use ioa_system::System;
 use ioa_transitions::Entry;
@@ -52,7 +53,7 @@ fn fresh_looks(rt: HostRuntime) -> Result<(), Fail> {
 }
 
 /// Whether all is right with two workers on one book, and with what they leave.
-fn are_fresh<O: Origin + Send + Sync, L: Ledger + Send + Sync, R: Threads + Wait + Sync>(
+fn are_fresh<O: Opening + Send + Sync, L: Ledger + Send + Sync, R: Threads + Wait + Sync>(
     rt: &R,
     alloc: Global,
     maker: Maker,
@@ -60,6 +61,7 @@ fn are_fresh<O: Origin + Send + Sync, L: Ledger + Send + Sync, R: Threads + Wait
     system: &Arc<System>,
 ) -> Result<bool, Fail>
     requires maker { maker_name maker ≡ O.name }
+    requires opened { (arc_value system.now ≡ O.system) × (10 ≡ O.limit) }
     requires name { blank.name ≡ L.name }
     requires parts { (blank.parts ≡ L.parts) × (L.parts ≡ 2) }
 {
@@ -76,7 +78,7 @@ fn are_fresh<O: Origin + Send + Sync, L: Ledger + Send + Sync, R: Threads + Wait
 }
 
 /// What the workers had, put together.
-fn gathered<O: Origin, L: Ledger>(
+fn gathered<O: Opening, L: Ledger>(
     alloc: Global,
     shared: Shared<O, L>,
     slots: Vec<Slot<L>>,
@@ -98,7 +100,7 @@ fn gathered<O: Origin, L: Ledger>(
 }
 
 /// Whether the book is finished with both shares, and neither with another limit nor with the first share alone.
-fn is_finished<O: Origin, L: Ledger>(
+fn is_finished<O: Opening, L: Ledger>(
     alloc: Global,
     system: &SharedOf<O, System, Global>,
     mut whole: Box<Whole<O, L>>,
@@ -140,7 +142,7 @@ fn slots_of<L: Ledger>(
 }
 
 /// Runs a thread for each slot, and waits for all of them.
-fn run_slots<O: Origin + Send + Sync, L: Ledger + Send + Sync, R: Threads + Wait + Sync>(
+fn run_slots<O: Opening + Send + Sync, L: Ledger + Send + Sync, R: Threads + Wait + Sync>(
     rt: &R,
     shared: &Shared<O, L>,
     alloc: Global,
@@ -154,7 +156,7 @@ fn run_slots<O: Origin + Send + Sync, L: Ledger + Send + Sync, R: Threads + Wait
 }
 
 /// The work of a worker.
-fn fill<O: Origin, L: Ledger, R: Wait>(
+fn fill<O: Opening, L: Ledger, R: Wait>(
     rt: &R,
     shared: &Shared<O, L>,
     alloc: Global,
@@ -169,7 +171,7 @@ fn fill<O: Origin, L: Ledger, R: Wait>(
 }
 
 /// Whether node 1 can be looked at, and once more in the place of that look.
-fn looks_twice<O: Origin, L: Ledger, R: Wait>(
+fn looks_twice<O: Opening, L: Ledger, R: Wait>(
     rt: &R,
     shared: &Shared<O, L>,
     alloc: Global,
@@ -182,7 +184,7 @@ fn looks_twice<O: Origin, L: Ledger, R: Wait>(
 }
 
 /// Whether node 0 sends, and is then seen as it is after that.
-fn sends<O: Origin, L: Ledger, R: Wait>(
+fn sends<O: Opening, L: Ledger, R: Wait>(
     rt: &R,
     shared: &Shared<O, L>,
     alloc: Global,
@@ -192,7 +194,7 @@ fn sends<O: Origin, L: Ledger, R: Wait>(
 }
 
 /// Whether the send of node 0 is committed as the first action.
-fn commits<O: Origin, L: Ledger, R: Wait>(
+fn commits<O: Opening, L: Ledger, R: Wait>(
     rt: &R,
     shared: &Shared<O, L>,
     alloc: Global,
@@ -212,7 +214,7 @@ fn commits<O: Origin, L: Ledger, R: Wait>(
 }
 
 /// Whether a proposal is committed as the first action.
-fn attempts<O: Origin, L: Ledger, R: Wait>(
+fn attempts<O: Opening, L: Ledger, R: Wait>(
     rt: &R,
     shared: &Shared<O, L>,
     slot: &mut Slot<L>,
@@ -234,7 +236,7 @@ fn attempts<O: Origin, L: Ledger, R: Wait>(
 }
 
 /// Whether node 0 is seen once after its send, and its channel and the log at least so.
-fn sees<O: Origin, L: Ledger, R: Wait>(
+fn sees<O: Opening, L: Ledger, R: Wait>(
     rt: &R,
     shared: &Shared<O, L>,
     alloc: Global,

@@ -3,22 +3,22 @@
 use ioa_held::{FinishFault, Share, Unfinished};
 use ioa_receipts::Receipts;
 use ioa_record::Record;
-use ioa_shared::Shared;
-use ioa_sharing::{Origin, SharedOf};
+use ioa_shared::{Opening, Shared};
+use ioa_sharing::SharedOf;
 use ioa_system::System;
 use std::alloc::Global;
 use std::sync::ledger::Ledger;
 use std::test::Fail;
 
 /// What is to be finished, with its shares and receipts.
-pub(crate) struct Whole<O: Origin, L: Ledger> {
+pub(crate) struct Whole<O: Opening, L: Ledger> {
     pub shared: Shared<O, L>,
     pub shares: Vec<Share<L>>,
     pub receipts: Vec<Receipts>,
 }
 
 /// By hand, so that no test proves again how the parts are let go.
-impl<O: Origin, L: Ledger> Drop for Whole<O, L> {
+impl<O: Opening, L: Ledger> Drop for Whole<O, L> {
     fn drop(self) {
         let Whole {
             shared: _,
@@ -28,7 +28,7 @@ impl<O: Origin, L: Ledger> Drop for Whole<O, L> {
     }
 }
 
-impl<O: Origin, L: Ledger> Whole<O, L> {
+impl<O: Opening, L: Ledger> Whole<O, L> {
     /// The book, the shares and the receipts.
     fn into_parts(self) -> (Shared<O, L>, Vec<Share<L>>, Vec<Receipts>) {
         let Whole {
@@ -70,7 +70,7 @@ impl<O: Origin, L: Ledger> Whole<O, L> {
 }
 
 /// What is handed back, if it was refused for this fault.
-fn handed_back<O: Origin, L: Ledger>(
+fn handed_back<O: Opening, L: Ledger>(
     alloc: Global,
     left: Unfinished<Shared<O, L>, L>,
     wanted: FinishFault,

@@ -8,6 +8,8 @@ use denote.Param.Send.{IsSend, IsSync, sendable, shr_send}
 use Rattle.std.specs.Prelude.{ℕ}
 use Rattle.std.proofs.Crossing.{crosses}
 use Rattle.ioa_shared.specs.contracts.shared.Shared as Shared
+use Rattle.ioa_shared.specs.contracts.solo.Solo as Solo
+use Rattle.ioa_shared.specs.declared.opening.Opening as Opening
 use Rattle.ioa_held.specs.contracts.held.Held as Held
 use Rattle.ioa_passes.specs.contracts.pass.Pass as Pass
 use Rattle.ioa_held.specs.contracts.share.Share as Share
@@ -98,9 +100,13 @@ module _ (O : RattleType) (g : Origin.Ghosts O.Denot) where
     pub held_send : IsSend (Held.the_field O L g h).row
     held_send = search (book_send, numbered_send, Total.the_send, sendable) depth 60 fits 20000
 
-    pub shared_sync : IsSync (Shared.the_row O L g h)
-    shared_sync = search (Mutex.the_sync, held_send, sendable) depth 60 fits 20000
+    module _ (o : Opening.Ghosts O.Denot) where
+      pub solo_send : IsSend (Solo.the_field O L o g h).row
+      solo_send = search (held_send, sendable) depth 60 fits 20000
+
+      pub shared_sync : IsSync (Shared.the_row O L o g h)
+      shared_sync = search (Mutex.the_sync, solo_send, sendable) depth 60 fits 20000
 
 -- so a thread may be lent it, in a function that has its two types as the parameters of these numbers
-pub lent_send : (i j : ℕ) (O L : RattleType) (g : Origin.Ghosts O.Denot) (h : Ledger.Ghosts L.Denot) (ℓ : Lifetime) (κ : Lft) → IsSend (ShrRef ℓ κ (Shared.the_row (param i O) (param j L) g h))
-lent_send i j O L g h ℓ κ = shr_send ℓ κ _ (shared_sync (param i O) g (param j L) h)
+pub lent_send : (i j : ℕ) (O L : RattleType) (o : Opening.Ghosts O.Denot) (g : Origin.Ghosts O.Denot) (h : Ledger.Ghosts L.Denot) (ℓ : Lifetime) (κ : Lft) → IsSend (ShrRef ℓ κ (Shared.the_row (param i O) (param j L) o g h))
+lent_send i j O L o g h ℓ κ = shr_send ℓ κ _ (shared_sync (param i O) g (param j L) h o)

@@ -3,4 +3,5 @@ mod Behind
 pub mod Dealing
 pub mod InOrder
 pub mod Numbers
+mod Own
 pub mod Unbegun

@@ -10,26 +10,28 @@ use crate::slot::Slot;
 use ioa_held::{FinishFault, Share};
 use ioa_receipts::Receipts;
 use ioa_record::{Ending, NodeFault, Record};
-use ioa_shared::Shared;
+use ioa_shared::{Opening, Shared};
 use ioa_sharing::{Origin, SharedOf};
 use ioa_solo::Hand;
 use ioa_system::System;
 use std::alloc::{AllocError, Global};
 use std::sync::ledger::Ledger;
 
-/// Takes the book apart with the shares and the receipts of all slots.
-pub(crate) fn finish<O: Origin, L: Ledger>(
+/// Takes the book apart with the shares and the receipts of all slots. It was opened with this system and this limit.
+pub(crate) fn finish<O: Opening, L: Ledger>(
     alloc: Global,
     system: &SharedOf<O, System, Global>,
     steps: usize,
     shared: Shared<O, L>,
     slots: Vec<Slot<O, L>>,
 ) -> Result<Record, FinishFault>
-    requires { length slots.items ≡ L.parts }
+    requires opened { (shared_of_value system.now ≡ O.system) × (steps ≡ O.limit) }
+    requires shares { length slots.items ≡ L.parts }
     ensures replayed { IfOk result (λ r.
         ReplaysWithin steps (start (shared_of_value system.now)) r.schedule r.states.items) }
     ensures counted { IfOk result (λ r. length r.commits.items ≡ L.parts) }
     ensures gathered { IfErr result (λ f. f ≢ FinishFault.SharesMissing) }
+    ensures own { IfErr result (λ f. f ≢ FinishFault.Foreign) }
 {
     let (shares, receipts) = handed_in(alloc, slots)?;
     match shared.finish(alloc, system, steps, shares, receipts) {

@@ -14,8 +14,8 @@ use crate::threads::run_slots;
 use ioa_boards::Gate;
 use ioa_held::FinishFault;
 use ioa_record::{Ending, Options, Record};
-use ioa_shared::open;
-use ioa_sharing::{Maker, MakerOf, Origin, SharedOf};
+use ioa_shared::{Opening, open};
+use ioa_sharing::{Maker, MakerOf, SharedOf};
 use ioa_system::System;
 use std::alloc::Global;
 use std::marker::Brand;
@@ -32,8 +32,8 @@ pub const STACK_SIZE: usize = 2 * 1024 * 1024;
 ///
 /// Returns the record, with the commits of each worker, and an ending for each node, node 0 first. The nodes of a
 /// worker whose thread can't be started end with `fault NoThread`, and it commits nothing. `Memory` (3) if memory runs
-/// out before or after the work. With several workers the contract leaves open that `Foreign` (55) or `Unaccounted`
-/// (56) comes, since only finishing finds out what the threads left. `SharesMissing` (57) does not come.
+/// out before or after the work. With several workers the contract leaves open that `Unaccounted` (56) comes, since only
+/// finishing finds out what the threads left. `Foreign` (55) and `SharesMissing` (57) do not come.
 pub fn run<R: Threads + Wait + Sync, G: Gate + Sync>(
     rt: &R,
     alloc: Global,
@@ -46,6 +46,7 @@ pub fn run<R: Threads + Wait + Sync, G: Gate + Sync>(
     ensures run { IfOk result (λ r. IsWellDeclared (arc_value system.now) →
         IsRunOf (arc_value system.now) options.now.steps r.0 r.1.items) }
     ensures gathered { IfErr result (λ f. f ≢ FinishFault.SharesMissing) }
+    ensures own { IfErr result (λ f. f ≢ FinishFault.Foreign) }
     ensures alone { options.now.workers ≡ 1 → IfOk result (λ r. IsOfOneWorker r.0) }
     ensures solo { options.now.workers ≡ 1 → IfOk result (λ r.
         IsSoloRun (arc_value system.now) options.now r.0 r.1.items) }
@@ -93,6 +94,7 @@ pub fn run_on_stacks<R: Threads + Wait + Sync, G: Gate + Sync>(
     ensures run { IfOk result (λ r. IsWellDeclared (arc_value system.now) →
         IsRunOf (arc_value system.now) options.now.steps r.0 r.1.items) }
     ensures gathered { IfErr result (λ f. f ≢ FinishFault.SharesMissing) }
+    ensures own { IfErr result (λ f. f ≢ FinishFault.Foreign) }
 {
     let workers = options.workers();
     run_by::<Brand, Brand, R, G>(
@@ -107,9 +109,10 @@ pub fn run_on_stacks<R: Threads + Wait + Sync, G: Gate + Sync>(
     )
 }
 
-/// The same by a maker of this origin, which numbers what the book of commits holds, and with shares of this ledger.
+/// The same by a maker of this origin, which numbers what the book of commits holds, and with shares of this ledger. The
+/// book is opened with this system and this limit, for which the origin stands too.
 fn run_by<
-    O: Origin + Send + Sync,
+    O: Opening + Send + Sync,
     L: Ledger + Send + Sync,
     R: Threads + Wait + Sync,
     G: Gate + Sync,
@@ -124,6 +127,7 @@ fn run_by<
     stack: usize,
 ) -> Result<(Record, Vec<Ending>), FinishFault>
     requires maker { maker_name maker ≡ O.name }
+    requires opened { (arc_value system.now ≡ O.system) × (options.now.steps ≡ O.limit) }
     requires name { blank.name ≡ L.name }
     requires parts { blank.parts ≡ L.parts }
     requires workers { L.parts ≡ options.now.workers }
@@ -132,6 +136,7 @@ fn run_by<
     ensures run { IfOk result (λ r. IsWellDeclared (arc_value system.now) →
         IsRunOf (arc_value system.now) options.now.steps r.0 r.1.items) }
     ensures gathered { IfErr result (λ f. f ≢ FinishFault.SharesMissing) }
+    ensures own { IfErr result (λ f. f ≢ FinishFault.Foreign) }
 {
     let mut maker: MakerOf<O> = MakerOf::of(maker);
     let system = maker.share(Arc::try_clone(system)?);
@@ -140,7 +145,7 @@ fn run_by<
 
 /// The same of a system that the maker has numbered.
 fn run_on<
-    O: Origin + Send + Sync,
+    O: Opening + Send + Sync,
     L: Ledger + Send + Sync,
     R: Threads + Wait + Sync,
     G: Gate + Sync,
@@ -154,6 +159,7 @@ fn run_on<
     gate: &G,
     stack: usize,
 ) -> Result<(Record, Vec<Ending>), FinishFault>
+    requires opened { (shared_of_value system.now ≡ O.system) × (options.now.steps ≡ O.limit) }
     requires name { blank.name ≡ L.name }
     requires parts { blank.parts ≡ L.parts }
     requires workers { L.parts ≡ options.now.workers }
@@ -162,6 +168,7 @@ fn run_on<
     ensures run { IfOk result (λ r. IsWellDeclared (shared_of_value system.now) →
         IsRunOf (shared_of_value system.now) options.now.steps r.0 r.1.items) }
     ensures gathered { IfErr result (λ f. f ≢ FinishFault.SharesMissing) }
+    ensures own { IfErr result (λ f. f ≢ FinishFault.Foreign) }
 {
     let steps = options.steps() as usize;
     let workers = options.workers();

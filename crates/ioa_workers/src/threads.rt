@@ -2,8 +2,7 @@
 
 use crate::slot::Slot;
 use ioa_boards::{Gate, Locked};
-use ioa_shared::Shared;
-use ioa_sharing::Origin;
+use ioa_shared::{Opening, Shared};
 use ioa_solo::work;
 use std::alloc::Global;
 use std::sync::Wait;
@@ -14,7 +13,7 @@ use std::thread::{Builder, Threads};
 /// Starts a thread for each slot, with a stack of so many bytes, and waits for the end of all of them. The slot of a
 /// thread that is refused stays as it was.
 pub(crate) fn run_slots<
-    O: Origin + Send + Sync,
+    O: Opening + Send + Sync,
     L: Ledger + Send + Sync,
     R: Threads + Wait + Sync,
     G: Gate + Sync,
@@ -39,7 +38,7 @@ pub(crate) fn run_slots<
 }
 
 /// The work of a worker, in its thread.
-fn fill<O: Origin, L: Ledger, R: Wait, G: Gate>(
+fn fill<O: Opening, L: Ledger, R: Wait, G: Gate>(
     rt: &R,
     alloc: Global,
     shared: &Shared<O, L>,

@@ -14,4 +14,4 @@ slot_send L h = search (pass_send, receipts_send, share_send, crosses, sendable)
 -- a thread has a slot of its own, and may be lent the book under its lock
 pub spawn-requires-send-F : goal.spawn-requires-send-F
 spawn-requires-send-F g c κs h =
-    search (slot_send, lent_send 0 1 g.row.O g.row.L g.O.Origin g.L.Ledger, Global.the_send, sendable) depth 60 fits 20000
+    search (slot_send, lent_send 0 1 g.row.O g.row.L g.O.Opening g.O.Origin g.L.Ledger, Global.the_send, sendable) depth 60 fits 20000

@@ -23,6 +23,6 @@ slot_send O L g h = search (hand_send, numbered_send, owners, crosses, sendable)
 pub spawn_scoped-requires-send-F : goal.spawn_scoped-requires-send-F
 spawn_scoped-requires-send-F g c κs h =
     param_send 1
-    (thread.arg-2-1 g.row.O g.row.L g.row.R g.row.G g.O.laws g.L.laws g.R.laws g.G.laws g.O.Origin g.O.Origin-dict
-    g.L.Ledger g.L.Ledger-dict g.R.Threads g.R.Threads-dict g.R.Wait g.R.Wait-dict g.G.Gate g.G.Gate-dict κs)
-    (search (slot_send, lent_send 0 1 g.row.O g.row.L g.O.Origin g.L.Ledger, Global.the_send, sendable) depth 60 fits 20000)
+    (thread.arg-2-1 g.row.O g.row.L g.row.R g.row.G g.O.laws g.L.laws g.R.laws g.G.laws g.O.Opening g.O.Opening-dict
+    g.O.Origin g.O.Origin-dict g.L.Ledger g.L.Ledger-dict g.R.Threads g.R.Threads-dict g.R.Wait g.R.Wait-dict g.G.Gate g.G.Gate-dict κs)
+    (search (slot_send, lent_send 0 1 g.row.O g.row.L g.O.Opening g.O.Origin g.L.Ledger, Global.the_send, sendable) depth 60 fits 20000)
