@@ -1,5 +1,5 @@
 -- A run by one worker is finished.
-use Rattle.std.proofs.Common.{◌≡◌, ◌+◌, ℕ, suc, List, [], ◌∷◌, ◌++◌, map, length, refl, sym, ap, subst, ◌∙◌, arith}
+use Rattle.std.proofs.Common.{◌≡◌, ◌+◌, ℕ, ℤ, Bool, suc, List, [], ◌∷◌, ◌++◌, map, length, refl, sym, ap, subst, ◌∙◌, arith}
 use Rattle.std.proofs.lemmas.List.{append-nil, length-append}
 use Rattle.ioa_actions.specs.declared.component.Component.{Component}
 use Rattle.ioa_transitions.specs.Entries.{PlainEntry}
@@ -52,8 +52,8 @@ module _ (s : SystemParts) (limit : ℕ) (old new : PlainBook) (had : List Recei
   length_numbered k (e ∷ es) = ap suc (length_numbered (k + 1) es)
 
   -- the share counts each entry
-  pub counts_all : (before first count : ℕ) → first ≡ 0 → HasGained before 0 first count had rs.all → count ≡ length new.log
-  counts_all before first count zero g =
+  pub counts_all : (before left : (ℤ → Bool) → ℕ) (first count : ℕ) → first ≡ 0 → HasGained before left first count had rs.all → count ≡ length new.log
+  counts_all before left first count zero g =
       let more : length rs.all ≡ length had + length g.gained = ap length g.receipts ∙ length-append had g.gained in
       let before : length had ≡ 0 = ap length none in
       let those : length rs.all ≡ length h.added = ap length got ∙ length_numbered 0 h.added in

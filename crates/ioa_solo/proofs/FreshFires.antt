@@ -2,6 +2,7 @@
 use Rattle.std.proofs.Common.{◌≡◌, ℕ, ℤ, Bool, true, false, List, Some, None, Result, Ok, Err, if◌then◌else◌, refl, sym, ap, subst, ◌∙◌, length}
 use Rattle.std.specs.Prelude.{nat_lt}
 use Rattle.std.specs.Ordering.{int_eq}
+use Rattle.std.proofs.lemmas.Bool.Decides.{Decides-int_eq}
 use Rattle.ioa_values.specs.Outcome.{and_then}
 use Rattle.ioa_actions.specs.ActionParts.{node_of}
 use Rattle.ioa_actions.specs.declared.action.Action.{Action}
@@ -16,7 +17,8 @@ use Rattle.ioa_commits.specs.Books.{PlainBook, states_held}
 use Rattle.ioa_book.specs.Looks.{IsLookAt, PlainSnapshot, snapshot_after}
 use Rattle.ioa_commits.specs.Commits.{IsCommitted, IsRefused, full, refusal_of}
 use Rattle.ioa_commits.specs.Proposals.{PlainProposal, plain_proposal}
-use Rattle.ioa_book.specs.Proposals.{proposal_answer, reads_held}
+use Rattle.ioa_commits.specs.Versions.{read_confs}
+use Rattle.ioa_book.specs.Proposals.{proposal_answer, reads_at, reads_held, step_answer}
 use Rattle.ioa_commits.specs.declared.outcome.CommitRefusal.{CommitRefusal}
 use Rattle.ioa_commits.specs.declared.outcome.CommitRefusal.TheVariants as refusal
 use Rattle.ioa_book.proofs.FreshLooks.{fresh_proposal, held_stands}
@@ -31,6 +33,23 @@ record IsMade (b : PlainBook) (n : ℤ) (a : Action) (p : PlainProposal) : Type 
   changed : List Conf
   picks : picks_of a (find_confs (participants_of a) (states_held b)) ≡ Ok (entry, changed)
   proposal : p ≡ plain_proposal entry (length b.log) (reads_held b (participants_of a))
+
+-- a proposal is of an action of the node that was looked at, whatever the look shows
+pub proposed_node : (a : Action) (s : PlainSnapshot) (x : PlainProposal) → proposal_answer a s ≡ Ok x → node_of x.entry.action ≡ s.node
+proposed_node a s x h = by_mine (int_eq (node_of a) s.node) refl h
+  where
+    by_picks : (r : Result (PlainEntry × List Conf) StepFault) → picks_of a (find_confs (participants_of a) (read_confs s.reads)) ≡ r →
+        and_then r (λ t. Ok (plain_proposal t.0 s.length (reads_at (participants_of a) s.reads))) ≡ Ok x → x.entry.action ≡ a
+    by_picks (Ok t) e g =
+        let same : plain_proposal t.0 s.length (reads_at (participants_of a) s.reads) ≡ x = cc in
+        ap (λ (p : PlainProposal). p.entry.action) (sym same) ∙ (picks_of-entry a (find_confs (participants_of a) (read_confs s.reads)) t.0 t.1 e).0
+    by_picks (Err f) e g = absurd (cc)
+
+    by_mine : (t : Bool) → int_eq (node_of a) s.node ≡ t → (if t then step_answer a s else Err step.NotMine) ≡ Ok x → node_of x.entry.action ≡ s.node
+    by_mine true e g =
+        ap node_of (by_picks (picks_of a (find_confs (participants_of a) (read_confs s.reads))) refl g)
+        ∙ (Decides-int_eq (node_of a) s.node).0 e
+    by_mine false e g = absurd (cc)
 
 -- one result has one fault
 same_fault : (e f : StepFault) (r : Result PlainProposal StepFault) → r ≡ Err e → r ≡ Err f → e ≡ f

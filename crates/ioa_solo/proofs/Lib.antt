@@ -18,6 +18,6 @@ mod Runs
 mod SoloRuns
 mod OwnStates
 mod OwnPrograms
-mod UpTo
+pub mod UpTo
 mod Works
 pub mod KeptByRuns

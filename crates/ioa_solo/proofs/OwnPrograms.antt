@@ -101,7 +101,7 @@ met_opened s b p begins own =
     sym (shown_met (states_held b) p end.0 end.1 (execution_shows p.program (projection_of k b.log) (node_start p.program) end.0 refl end.2))
 
 -- a program that is found by a number has it
-found_number : (k : ℤ) (ps : List Parts) (p : Parts) → program_of k ps ≡ Some p → p.node ≡ k
+pub found_number : (k : ℤ) (ps : List Parts) (p : Parts) → program_of k ps ≡ Some p → p.node ≡ k
 found_number k [] p h = absurd (cc)
 found_number k (q ∷ ps) p h = by_test (int_eq q.node k) refl (found_number k ps p)
   where

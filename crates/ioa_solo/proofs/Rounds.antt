@@ -1,15 +1,12 @@
 -- Rounds that are gone node by node.
-use Rattle.std.proofs.Common.{◌≡◌, refl, sym, ap, ◌∙◌, ℕ, ℤ, zero, suc, ◌+◌, ◌-◌, ◌<◌, ◌≤◌, List, [], ◌∷◌, ◌++◌, map, take, drop, get_or, Bool, true, false, None, length, slice_set, append_assoc, arith}
+use Rattle.std.proofs.Common.{◌≡◌, refl, sym, ap, ◌∙◌, ℕ, ℤ, zero, suc, ◌+◌, ◌-◌, ◌<◌, ◌≤◌, List, [], ◌∷◌, ◌++◌, map, take, drop, get_or, Bool, true, false, Option, Some, None, length, slice_set, append_assoc, arith}
 use Rattle.std.specs.Prelude.{◌||◌, is_some, Result, Ok, Err, OnOk, OnErr}
 use Rattle.std.specs.Result.{is_err}
 use Rattle.std.specs.List.{list_all, list_any}
 use Rattle.std.proofs.lemmas.List.{drop_more, drop-set-lt, map-append, take_more_set}
+use Rattle.ioa_record.specs.declared.ending.Ending.{Ending}
 use Rattle.ioa_turns.specs.NodeTurns.{PlainProgress}
-use Rattle.ioa_solo.specs.Solo.{PlainCourse, round, rounds, has_ended, is_under_way, ending_of, short_of_memory, is_cut_short}
-
--- nodes that are gone by, before the rest of a round
-abbrev pub prepend_nodes : List PlainProgress → PlainCourse × List PlainProgress → PlainCourse × List PlainProgress
-prepend_nodes done rest = (rest.0, done ++ rest.1)
+use Rattle.ioa_solo.specs.Solo.{PlainCourse, round, rounds, has_ended, is_under_way, ending_of, ending_then, short_of_memory, visit_unless_ended}
 
 -- a round of nodes that have endings changes nothing
 round_ended : (limit : ℕ) (s : PlainCourse) (ps : List PlainProgress) → list_all has_ended ps ≡ true → round limit s ps ≡ (s, ps)
@@ -31,26 +28,39 @@ unfolding rounds
 rounds_ended limit zero s ps all = refl
 rounds_ended limit (suc n) s ps all = rw (round_ended limit s ps all) (rounds_ended limit n s ps all)
 
-first_round : (limit n : ℕ) (s : PlainCourse) (ps : List PlainProgress) → rounds limit (suc n) s ps ≡ rounds limit n (round limit s ps).0 (round limit s ps).1
-unfolding rounds
-first_round limit n s ps = refl
-
--- one round, and then those that are left
-pub rounds_on : (limit turn end : ℕ) (s t : PlainCourse) (ps qs : List PlainProgress) → turn < end → (t, qs) ≡ round limit s ps →
-    rounds limit (end - (turn + 1)) t qs ≡ rounds limit (end - turn) s ps
-rounds_on limit turn end s t ps qs within h =
-    let left : end - turn ≡ suc (end - (turn + 1)) = omega arith in
-    rw (left, first_round limit (end - (turn + 1)) s ps, ← h) refl
-
-no_round : (limit : ℕ) (s : PlainCourse) (ps : List PlainProgress) → rounds limit zero s ps ≡ (s, ps)
+-- no round is gone
+pub no_round : (limit : ℕ) (s : PlainCourse) (ps : List PlainProgress) → rounds limit zero s ps ≡ (s, ps)
 unfolding rounds
 no_round limit s ps = refl
 
--- no round is left
-pub rounds_none : (limit turn end : ℕ) (s : PlainCourse) (ps : List PlainProgress) → end ≤ turn → rounds limit (end - turn) s ps ≡ (s, ps)
-rounds_none limit turn end s ps past =
-    let none : end - turn ≡ zero = omega arith in
-    rw none (no_round limit s ps)
+-- some rounds, and then one more
+next_round : (limit n : ℕ) (s : PlainCourse) (ps : List PlainProgress) → rounds limit (suc n) s ps ≡ round limit (rounds limit n s ps).0 (rounds limit n s ps).1
+unfolding rounds
+next_round limit zero s ps = refl
+next_round limit (suc n) s ps = next_round limit n (round limit s ps).0 (round limit s ps).1
+
+pub one_more : (limit n : ℕ) (s : PlainCourse) (ps : List PlainProgress) → rounds limit (n + 1) s ps ≡ round limit (rounds limit n s ps).0 (rounds limit n s ps).1
+one_more limit n s ps =
+    let next : n + 1 ≡ suc n = omega arith in
+    rw next (next_round limit n s ps)
+
+-- and then others
+pub rounds_further : (limit m n : ℕ) (s : PlainCourse) (ps : List PlainProgress) → rounds limit (m + n) s ps ≡ rounds limit n (rounds limit m s ps).0 (rounds limit m s ps).1
+unfolding rounds
+rounds_further limit zero n s ps =
+    let none : zero + n ≡ n = omega arith in
+    ap (λ (k : ℕ). rounds limit k s ps) none
+rounds_further limit (suc m) n s ps =
+    let one : suc m + n ≡ suc (m + n) = omega arith in
+    ap (λ (k : ℕ). rounds limit k s ps) one ∙ rounds_further limit m n (round limit s ps).0 (round limit s ps).1
+
+-- a round of some nodes, and then of others
+pub round_append : (limit : ℕ) (s : PlainCourse) (ps qs : List PlainProgress) →
+    round limit s (ps ++ qs) ≡ ((round limit (round limit s ps).0 qs).0, (round limit s ps).1 ++ (round limit (round limit s ps).0 qs).1)
+round_append limit s [] qs = refl
+round_append limit s (p ∷ ps) qs =
+    let first = visit_unless_ended limit s p in
+    ap (λ (t : PlainCourse × List PlainProgress). (t.0, first.1 ∷ t.1)) (round_append limit first.0 ps qs)
 
 -- what a call promises if it passes, and if it fails
 pub on_ok : {T E P : Type 0} (r : Result T E) → is_err r ≡ false → OnOk r P → P
@@ -61,19 +71,14 @@ pub on_err : {T E P : Type 0} (r : Result T E) → is_err r ≡ true → OnErr r
 on_err (Ok x) failed p = absurd (cc)
 on_err (Err e) failed p = p
 
--- if a node was still under way, an ending says that memory ran out
-pub told_short : (ps : List PlainProgress) → list_any is_under_way ps ≡ true → list_any is_cut_short (map ending_of (map short_of_memory ps)) ≡ true
-told_short [] any = any
-told_short (p ∷ more) any = at_head (is_some p.ending) refl (λ h. told_short more h)
+-- the endings that are reported once memory has run out
+pub told_then : (ps : List PlainProgress) → map ending_of (map short_of_memory ps) ≡ map ending_then ps
+told_then [] = refl
+told_then (p ∷ more) = λ j. by_ending p.ending refl j ∷ told_then more j
   where
-    later : (a b : Bool) → b ≡ true → a || b ≡ true
-    later true b e = refl
-    later false b e = e
-
-    at_head : (b : Bool) → is_some p.ending ≡ b → (list_any is_under_way more ≡ true → list_any is_cut_short (map ending_of (map short_of_memory more)) ≡ true) →
-        list_any is_cut_short (map ending_of (map short_of_memory (p ∷ more))) ≡ true
-    at_head true e others = later _ _ (others (rw e at any))
-    at_head false e others = rw e refl
+    by_ending : (o : Option Ending) → p.ending ≡ o → ending_of (short_of_memory p) ≡ ending_then p
+    by_ending (Some e) h = rw h refl
+    by_ending None h = rw h refl
 
 -- what holds anyway holds if a call fails
 pub if_failed : {T E P : Type 0} (r : Result T E) → P → OnErr r P
@@ -90,11 +95,11 @@ under_way_at f (q ∷ qs) (suc n) p within e = later (is_under_way (f q)) (under
     later true e = refl
     later false e = e
 
--- a node that is put in a place has the number of the one that was there
-pub numbers_set : {V : Type 0} (number : V → ℤ) (nodes : List V) (i : ℕ) (v w : V) → i < length nodes → number w ≡ number (get_or nodes i v) → map number (slice_set nodes i w) ≡ map number nodes
-numbers_set number [] i v w within same = refl
-numbers_set number (x ∷ xs) zero v w within same = ap (λ (k : ℤ). k ∷ map number xs) same
-numbers_set number (x ∷ xs) (suc i) v w within same = ap (λ (ks : List ℤ). number x ∷ ks) (numbers_set number xs i v w (omega arith) same)
+-- a node that is put in a place has what the one has that was there
+pub same_set : {V A : Type 0} (f : V → A) (nodes : List V) (i : ℕ) (v w : V) → i < length nodes → f w ≡ f (get_or nodes i v) → map f (slice_set nodes i w) ≡ map f nodes
+same_set f [] i v w within same = refl
+same_set {V} {A} f (x ∷ xs) zero v w within same = ap (λ (y : A). y ∷ map f xs) same
+same_set {V} {A} f (x ∷ xs) (suc i) v w within same = ap (λ (ys : List A). f x ∷ ys) (same_set f xs i v w (omega arith) same)
 
 -- one node more has ended for want of memory
 pub ended_more : {V : Type 0} (f : V → PlainProgress) (nodes : List V) (i : ℕ) (v w : V) (whole : List PlainProgress) → i < length nodes → f w ≡ short_of_memory (f (get_or nodes i v)) →

@@ -24,7 +24,7 @@ use Rattle.ioa_solo.specs.Attempts.{PlainFireOutcome, missed, taken, fire_answer
 use Rattle.ioa_schedules.specs.Turns.{TurnEnd, TurnResult, fires, idle, done}
 use Rattle.ioa_turns.specs.Inboxes.{inboxes_seen}
 use Rattle.ioa_turns.specs.NodeTurns.{PlainProgress, progress_at, reached, block_turn, shows_program, turn_on, turn_at}
-use Rattle.ioa_solo.specs.Solo.{PlainCourse, after_fire, after_end, after_turn, visit, visit_unless_ended, round, rounds, solo, has_ended, ending_of, IsCutShort, IsLeftBy, IsSoloRun}
+use Rattle.ioa_solo.specs.Solo.{PlainCourse, after_fire, after_end, after_turn, visit, visit_unless_ended, round, rounds, solo, has_ended, ending_of, course_in, IsCutShort, IsLeftBy, IsSoloCut, IsSoloRun}
 
 -- a node has an ending, or fewer attempts left than there are rounds
 abbrev pub IsNear : ℕ → PlainProgress → Type 0
@@ -129,9 +129,13 @@ told_endings (p ∷ more) all = by_ending p.ending refl (λ h. told_endings more
 
 -- a record of what the rounds of a run leave tells that run
 pub solo_run : (s : SystemParts) (o : PlainOptions) (t : PlainCourse) (ps : List PlainProgress) (r : Record) (endings : List Ending) →
-    IsCutShort (solo s o.attempts o.steps) t.schedule (map ending_of ps) ⊎ ((t, ps) ≡ solo s o.attempts o.steps) →
+    IsSoloCut s o.attempts o.steps t (map ending_of ps) ⊎ ((t, ps) ≡ solo s o.attempts o.steps) →
     r.schedule ≡ t.schedule → r.states.items ≡ t.states → endings ≡ map ending_of ps → IsSoloRun s o r endings
-solo_run s o t ps r endings (inl short) schedule states each = inl (rw each short.0, rw schedule short.1)
+solo_run s o t ps r endings (inl short) schedule states each =
+    let same : t ≡ course_in r = λ j. record { schedule = sym schedule j; states = sym states j } in
+    inl
+    (subst (λ (c : PlainCourse). IsSoloCut s o.attempts o.steps c endings) same
+    (subst (λ (es : List Ending). IsSoloCut s o.attempts o.steps t es) (sym each) short))
 solo_run s o t ps r endings (inr e) schedule states each =
     let all = subst (λ (left : PlainCourse × List PlainProgress). list_all has_ended left.1 ≡ true) (sym e) (solo_ends s o.attempts o.steps) in
     inr (subst (λ (left : PlainCourse × List PlainProgress). IsLeftBy left r endings) e
@@ -139,7 +143,7 @@ solo_run s o t ps r endings (inr e) schedule states each =
 
 -- the same of rounds from the beginning of a run
 pub solo_from : (s : SystemParts) (o : PlainOptions) (entries : List PlainEntry) (states : List Conf) (from : List PlainProgress) (t : PlainCourse) (ps : List PlainProgress) (r : Record) (endings : List Ending) →
-    IsCutShort (rounds o.steps (o.attempts + 1) (record { schedule = entries; states = states }) from) t.schedule (map ending_of ps)
+    IsCutShort o.steps (o.attempts + 1) (record { schedule = entries; states = states }) from t (map ending_of ps)
     ⊎ ((t, ps) ≡ rounds o.steps (o.attempts + 1) (record { schedule = entries; states = states }) from) →
     entries ≡ [] → states ≡ start s → from ≡ map (progress_at o.attempts) s.programs →
     r.schedule ≡ t.schedule → r.states.items ≡ t.states → endings ≡ map ending_of ps → IsSoloRun s o r endings

@@ -1,6 +1,6 @@
 -- What a worker commits on a book that its board tells is fired on the book as it is.
 use Rattle.std.proofs.Common.{◌≡◌, ◌⊎◌, inl, inr, ◌++◌, ◌∷◌, [], ℕ, ℤ, false, Some, None, Result, Ok, Err, refl, sym, ap, ◌∙◌, length}
-use Rattle.std.specs.Prelude.{OnOk, nat_lt}
+use Rattle.std.specs.Prelude.{IfOk, OnOk, nat_lt}
 use Rattle.std.proofs.lemmas.Bool.{le-ltb}
 use Rattle.ioa_actions.specs.declared.action.Action.{Action}
 use Rattle.ioa_actions.specs.declared.fault.StepFault.{StepFault}
@@ -14,11 +14,13 @@ use Rattle.ioa_book.specs.Looks.{IsLookAt, PlainSnapshot, snapshot_after}
 use Rattle.ioa_book.specs.Proposals.{proposal_answer}
 use Rattle.ioa_record.specs.declared.ending.NodeFault.{NodeFault}
 use Rattle.ioa_held.specs.Attempts.{IsMissed, IsTaken}
+use Rattle.ioa_shared.specs.SomeBook.{TakesInSome}
 use Rattle.ioa_passes.specs.Passes.{PlainPass, risen_by_refusal}
 use Rattle.ioa_held.specs.declared.outcome.Miss.{Miss}
 use Rattle.ioa_held.specs.declared.outcome.Miss.TheVariants as miss
 use Rattle.ioa_turns.specs.Faults.{fault_of_step}
 use Rattle.ioa_turns.specs.NodeTurns.{PlainProgress, past_fire}
+use Rattle.ioa_system.specs.Systems.{SystemParts}
 use Rattle.ioa_solo.specs.Attempts.{PlainFireOutcome, fire_answer, missed, taken, unless}
 use Rattle.ioa_solo.specs.Fires.{IsAfterFire, IsProposedIn, failed_by, missed_by, refused_by}
 use Rattle.ioa_solo.specs.Solo.{PlainCourse, after_fire, course_of}
@@ -71,6 +73,11 @@ module _ (old : PlainBook) (p : PlainProgress) (x : PlainProposal) (proposed : I
         ap (λ (r : Result PlainFireOutcome NodeFault). after_fire r (course_of old) p) told
             ∙ ap (λ (w : CommitRefusal). (course_of old, refused_by w p)) (sym full),
       )
+
+-- what is committed is the proposal's entry, whichever book it is
+pub entry_taken : {X E : Type 0} (s : SystemParts) (r : Result X E) (index : X → ℕ) (entry : X → PlainEntry) (x : PlainProposal) (p q : PlainPass) → IfOk r (λ t. TakesInSome s x p (index t) (entry t) q) → IfOk r (λ t. entry t ≡ x.entry)
+entry_taken s (Ok t) index entry x p q h = h.taken.commit.entry
+entry_taken s (Err e) index entry x p q h = tt
 
 -- the proposal that is handed back is the one that was handed in
 pub missed_same : (old : PlainBook) (x back : PlainProposal) (before : PlainPass) (why : Miss) (new : PlainBook) (after : PlainPass) → IsMissed old x before why back new after → IsMissed old x before why x new after

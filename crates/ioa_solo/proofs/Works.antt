@@ -1,10 +1,10 @@
 -- The nodes of a worker before its rounds, and their endings.
-use Rattle.std.proofs.Common.{◌≡◌, ◌⊎◌, inl, inr, ℕ, ℤ, ◌+◌, ◌≤◌, true, false, List, [], ◌∷◌, ◌++◌, map, length, drop, Some, refl, sym, ap, subst, ◌∙◌}
-use Rattle.std.specs.Prelude.{find, flat_map}
-use Rattle.std.specs.List.{AllByRecursion, IsDistinct, list_all, list_any}
+use Rattle.std.proofs.Common.{◌≡◌, ◌⊎◌, inl, inr, ℕ, ℤ, ◌+◌, ◌≤◌, ◌<◌, true, false, List, [], ◌∷◌, ◌++◌, map, length, drop, get_or, Some, refl, sym, ap, subst, ◌∙◌, append_assoc, arith}
+use Rattle.std.specs.Prelude.{find, flat_map, slice_get}
+use Rattle.std.specs.List.{AllByRecursion, IsDistinct, list_all}
 use Rattle.std.specs.Option.{option_map, unwrap_or}
 use Rattle.std.specs.Ordering.{int_eq}
-use Rattle.std.proofs.lemmas.List.{append-nil, drop_all}
+use Rattle.std.proofs.lemmas.List.{append-nil, drop_all, drop_more}
 use Rattle.std.proofs.lemmas.Bool.Decides.{Decides-int_eq}
 use Rattle.ioa_commits.specs.Books.{PlainBook, plain_book, states_held}
 use Rattle.ioa_compose.specs.IsStart.{StartsInitial}
@@ -12,17 +12,20 @@ use Rattle.ioa_compose.specs.Start.{start}
 use Rattle.ioa_compose.specs.declared.configuration.Conf.{Conf}
 use Rattle.ioa_compose.proofs.Starts.{is_start}
 use Rattle.ioa_record.specs.declared.ending.Ending.{Ending}
+use Rattle.ioa_record.specs.declared.ending.Ending.TheVariants.{Fault}
+use Rattle.ioa_record.specs.declared.ending.NodeFault.TheVariants.{Memory}
 use Rattle.ioa_sharing.specs.declared.named.Origin as Origin
 use Rattle.ioa_system.specs.Declarations.{IsWellDeclared}
 use Rattle.ioa_system.specs.Parts.{Parts}
 use Rattle.ioa_system.specs.Systems.{SystemParts}
 use Rattle.ioa_turns.specs.NodeTurns.{PlainProgress, progress_at}
-use Rattle.ioa_solo.specs.Solo.{Begins, IsCutShort, PlainCourse, course_of, ending_of, is_cut_short, has_ended, rounds, solo}
+use Rattle.ioa_solo.specs.Solo.{IsCutShort, IsRoundCut, IsSoloCut, PlainCourse, course_of, ending_of, ending_then, has_ended, rounds, solo, solo_begin}
 use Rattle.ioa_solo.specs.Visits.{PlainVisited, numbers_of, progress_in, visited_of}
 use Rattle.ioa_solo.specs.Works.{IsHeldOf, IsSoloWork, all_met, ending_at, ending_unvisited, met_first, program_of}
 use Rattle.ioa_solo.specs.declared.visited.Visited.{Visited}
-use Rattle.ioa_solo.proofs.Beginnings.{begins_any, rounds_of_none}
+use Rattle.ioa_solo.proofs.Beginnings.{none_cut, rounds_of_none}
 use Rattle.ioa_solo.proofs.Meets.{met_at_start}
+use Rattle.ioa_solo.proofs.Rounds.{no_round}
 use Rattle.ioa_solo.proofs.Termination.{solo_ends, told_endings}
 
 -- no number is left
@@ -31,6 +34,15 @@ pub met_all : (first : ℤ → List PlainVisited) (ks : List ℤ) (i : ℕ) (vs 
 met_all first ks i vs past h =
     sym (append-nil vs)
     ∙ ap (λ (rest : List ℤ). vs ++ flat_map first rest) (sym (drop_all i ks past))
+    ∙ h
+
+-- one number less is left
+pub more_met : (first : ℤ → List PlainVisited) (ks : List ℤ) (i : ℕ) (k : ℤ) (vs ws : List PlainVisited) → i < length ks → ws ≡ vs ++ first (get_or ks i k) →
+    vs ++ flat_map first (drop i ks) ≡ flat_map first ks → ws ++ flat_map first (drop (i + 1) ks) ≡ flat_map first ks
+more_met first ks i k vs ws within more h =
+    ap (λ (l : List PlainVisited). l ++ flat_map first (drop (i + 1) ks)) more
+    ∙ append_assoc vs (first (get_or ks i k)) (flat_map first (drop (i + 1) ks))
+    ∙ ap (λ (l : List ℤ). vs ++ flat_map first l) (sym (drop_more ks i k within))
     ∙ h
 
 -- two maps that are the same on each element
@@ -96,14 +108,18 @@ none_visited : {A : Type 0} (f : A → ℤ) (xs : List A) → map f xs ≡ [] �
 none_visited f [] h = refl
 none_visited f (x ∷ xs) h = absurd (cc)
 
--- if memory runs out before the first visit, an ending says so, or there is no node
-short_at_once : {O : Type 0} {g : Origin.Ghosts O} (s : SystemParts) (after : List (Visited O g)) → after ≡ [] → (p : Parts) (ps : List Parts) → s.programs ≡ p ∷ ps → list_any is_cut_short (map (ending_at s.programs after) (map (λ q. q.node) s.programs)) ≡ true
-short_at_once s after none p ps h = rw (none, h, int_itself p.node) refl
+-- if memory runs out before the first visit, each node ends so
+all_short : {O : Type 0} {g : Origin.Ghosts O} (all qs : List Parts) (attempts : ℕ) (after : List (Visited O g)) → after ≡ [] → AllByRecursion (λ q. program_of q.node all ≡ Some q) qs →
+    map (ending_at all after) (map (λ q. q.node) qs) ≡ map ending_then (map (progress_at attempts) qs)
+all_short all [] attempts after none own = refl
+all_short all (q ∷ qs) attempts after none own =
+    let first : ending_at all after q.node ≡ Fault Memory = rw (none, own.0) refl in
+    λ j. first j ∷ all_short all qs attempts after none own.1 j
 
 -- what a worker alone comes to
 module _ {O : Type 0} {g : Origin.Ghosts O} (s : SystemParts) (attempts : ℕ) (old new : PlainBook) (before after : List (Visited O g)) (endings : List Ending) (w : IsWellDeclared s)
     (fresh : old ≡ plain_book (start s) [] old.limit) (numbers : numbers_of after ≡ numbers_of before) (each : endings ≡ map (ending_at s.programs after) (map (λ q. q.node) s.programs))
-    (came : IsCutShort (rounds old.limit (attempts + 1) (course_of old) (map progress_in before)) new.log (map ending_of (map progress_in after))
+    (came : IsCutShort old.limit (attempts + 1) (course_of old) (map progress_in before) (course_of new) (map ending_of (map progress_in after))
     ⊎ ((course_of new, map progress_in after) ≡ rounds old.limit (attempts + 1) (course_of old) (map progress_in before))) where
   -- if it has met all nodes
   module _ (met : map visited_of before ≡ map (first_visited attempts) s.programs) where
@@ -129,16 +145,20 @@ module _ {O : Type 0} {g : Origin.Ghosts O} (s : SystemParts) (attempts : ℕ) (
         ∙ each_own (λ (v : Visited O g). v.number) (λ v. ending_of (progress_in v)) (λ k. ending_unvisited (program_of k s.programs)) after differ
         ∙ sym (parts_map ending_of progress_in after)
 
-    begun : course_of old ≡ record { schedule = []; states = start s }
+    begun : course_of old ≡ solo_begin s
     begun = ap course_of fresh
 
     -- rounds from the start of the system
     whole : rounds old.limit (attempts + 1) (course_of old) (map progress_in before) ≡ solo s attempts old.limit
     whole = λ j. rounds old.limit (attempts + 1) (begun j) (whole_progress j)
 
-    as_solo : IsCutShort (rounds old.limit (attempts + 1) (course_of old) (map progress_in before)) new.log (map ending_of (map progress_in after))
+    as_solo : IsCutShort old.limit (attempts + 1) (course_of old) (map progress_in before) (course_of new) (map ending_of (map progress_in after))
         ⊎ ((course_of new, map progress_in after) ≡ rounds old.limit (attempts + 1) (course_of old) (map progress_in before)) → IsSoloWork s attempts old.limit new endings
-    as_solo (inl short) = inl (rw own_endings short.0, subst (λ (left : PlainCourse × List PlainProgress). Begins new.log left.0) whole short.1)
+    as_solo (inl short) =
+        inl
+        (subst (λ (es : List Ending). IsSoloCut s attempts old.limit (course_of new) es) (sym own_endings)
+        (subst (λ (ps : List PlainProgress). IsCutShort old.limit (attempts + 1) (solo_begin s) ps (course_of new) (map ending_of (map progress_in after))) whole_progress
+        (subst (λ (c : PlainCourse). IsCutShort old.limit (attempts + 1) c (map progress_in before) (course_of new) (map ending_of (map progress_in after))) begun short)))
     as_solo (inr e) =
         let run : (course_of new, map progress_in after) ≡ solo s attempts old.limit = e ∙ whole in
         let ended = subst (λ (left : PlainCourse × List PlainProgress). list_all has_ended left.1 ≡ true) (sym run) (solo_ends s attempts old.limit) in
@@ -149,20 +169,40 @@ module _ {O : Type 0} {g : Origin.Ghosts O} (s : SystemParts) (attempts : ℕ) (
   no_rounds : before ≡ [] → rounds old.limit (attempts + 1) (course_of old) (map progress_in before) ≡ (course_of old, [])
   no_rounds none = rw none (rounds_of_none old.limit (attempts + 1) (course_of old))
 
-  nothing_added : before ≡ [] → IsCutShort (rounds old.limit (attempts + 1) (course_of old) (map progress_in before)) new.log (map ending_of (map progress_in after))
-      ⊎ ((course_of new, map progress_in after) ≡ rounds old.limit (attempts + 1) (course_of old) (map progress_in before)) → Begins new.log (course_of old)
-  nothing_added none (inl short) = subst (λ (left : PlainCourse × List PlainProgress). Begins new.log left.0) (no_rounds none) short.1
-  nothing_added none (inr e) =
-      let same : course_of new ≡ course_of old = ap (λ (left : PlainCourse × List PlainProgress). left.0) (e ∙ no_rounds none) in
-      record { rest = []; whole = ap (λ (t : PlainCourse). t.schedule) (sym same) ∙ sym (append-nil new.log) }
+  nothing_added : before ≡ [] → IsCutShort old.limit (attempts + 1) (course_of old) (map progress_in before) (course_of new) (map ending_of (map progress_in after))
+      ⊎ ((course_of new, map progress_in after) ≡ rounds old.limit (attempts + 1) (course_of old) (map progress_in before)) → course_of new ≡ course_of old
+  nothing_added none (inl short) =
+      let cut : IsCutShort old.limit (attempts + 1) (course_of old) [] (course_of new) (map ending_of (map progress_in after)) = rw none at short in
+      absurd (none_cut old.limit (attempts + 1) (course_of old) (course_of new) (map ending_of (map progress_in after)) cut)
+  nothing_added none (inr e) = ap (λ (left : PlainCourse × List PlainProgress). left.0) (e ∙ no_rounds none)
+
+  -- which is the cut before the first visit
+  cut_first : before ≡ [] → (p : Parts) (ps : List Parts) → s.programs ≡ p ∷ ps → IsSoloCut s attempts old.limit (course_of new) endings
+  cut_first none p ps e =
+      let nobody : after ≡ [] = none_visited (λ (v : Visited O g). v.number) after (numbers ∙ ap numbers_of none) in
+      let nodes : List PlainProgress = map (progress_at attempts) s.programs in
+      let cut : IsRoundCut old.limit (solo_begin s) nodes (course_of new) endings =
+      record {
+        visits = 0;
+        cut = record {
+          node = progress_at attempts p;
+          visited = ap (λ (qs : List Parts). slice_get (map (progress_at attempts) qs) 0) e;
+          under_way = refl;
+          course = nothing_added none came ∙ ap course_of fresh;
+          each = each ∙ all_short s.programs s.programs attempts after nobody (own_program s.programs w.nodes);
+        };
+      } in
+      record {
+        whole = 0;
+        within = omega arith;
+        cut = subst (λ (t : PlainCourse × List PlainProgress). IsRoundCut old.limit t.0 t.1 (course_of new) endings) (sym (no_round old.limit (solo_begin s) nodes)) cut;
+      }
 
   when_none : before ≡ [] → (ps : List Parts) → s.programs ≡ ps → IsSoloWork s attempts old.limit new endings
   when_none none [] e =
       let met : map visited_of before ≡ map (first_visited attempts) s.programs = rw (none, e) refl in
       as_solo met came
-  when_none none (p ∷ ps) e =
-      let nobody : after ≡ [] = none_visited (λ (v : Visited O g). v.number) after (numbers ∙ ap numbers_of none) in
-      inl (rw each (short_at_once s after nobody p ps e), begins_any new.log (course_of old) (solo s attempts old.limit).0 (ap (λ (b : PlainBook). b.log) fresh) (nothing_added none came))
+  when_none none (p ∷ ps) e = inl (cut_first none p ps e)
 
   by_met : (before ≡ []) ⊎ (map visited_of before ≡ all_met s.programs attempts (states_held old) (map (λ q. q.node) s.programs)) → IsSoloWork s attempts old.limit new endings
   by_met (inl none) = when_none none s.programs refl
@@ -173,7 +213,7 @@ module _ {O : Type 0} {g : Origin.Ghosts O} (s : SystemParts) (attempts : ℕ) (
 module _ {O : Type 0} {g : Origin.Ghosts O} (s : SystemParts) (attempts : ℕ) (old new : PlainBook) (nodes : List ℤ) (before lent after seen : List (Visited O g)) (endings : List Ending) where
   pub works_alone : IsWellDeclared s → old ≡ plain_book (start s) [] old.limit → nodes ≡ map (λ q. q.node) s.programs →
       (before ≡ []) ⊎ (map visited_of before ≡ all_met s.programs attempts (states_held old) nodes) → lent ≡ before → numbers_of after ≡ numbers_of lent →
-      IsCutShort (rounds old.limit (attempts + 1) (course_of old) (map progress_in lent)) new.log (map ending_of (map progress_in after))
+      IsCutShort old.limit (attempts + 1) (course_of old) (map progress_in lent) (course_of new) (map ending_of (map progress_in after))
       ⊎ ((course_of new, map progress_in after) ≡ rounds old.limit (attempts + 1) (course_of old) (map progress_in lent)) →
       seen ≡ after → endings ≡ map (ending_at s.programs seen) nodes → IsSoloWork s attempts old.limit new endings
   works_alone w fresh all met lending numbers came seeing each =

@@ -1,7 +1,6 @@
 -- *Solo* (profile): the run by one worker, who goes round the nodes in order until each has an ending.
-use Rattle.std.specs.Prelude.{◌≡◌, ◌⊎◌, ℕ, zero, suc, ◌+◌, ◌-◌, nat_eq, if◌then◌else◌, Bool, true, false, not}
-use Rattle.std.specs.Prelude.{List, [], ◌∷◌, ◌++◌, map, Some, is_some, Result, Ok, Err}
-use Rattle.std.specs.List.{list_any}
+use Rattle.std.specs.Prelude.{◌≡◌, ◌⊎◌, ℕ, zero, suc, ◌+◌, ◌-◌, ◌<◌, nat_eq, if◌then◌else◌, Bool, not}
+use Rattle.std.specs.Prelude.{List, [], ◌∷◌, ◌++◌, drop, map, slice_get, take, None, Some, is_some, Result, Ok, Err}
 use Rattle.std.specs.Option.{unwrap_or}
 use Rattle.ioa_transitions.specs.Entries.{PlainEntry}
 use Rattle.ioa_commits.specs.Books.{PlainBook, states_held}
@@ -77,10 +76,13 @@ unfoldable pub rounds : ℕ → ℕ → PlainCourse → List PlainProgress → P
 rounds limit zero s ps = (s, ps)
 rounds limit (suc n) s ps = rounds limit n (round limit s ps).0 (round limit s ps).1
 
+-- a run of a system before its first step
+abbrev pub solo_begin : SystemParts → PlainCourse
+solo_begin s = record { schedule = []; states = start s }
+
 -- the whole run: a node uses an attempt each round, and the round after its last attempt ends it
 abbrev pub solo : SystemParts → ℕ → ℕ → PlainCourse × List PlainProgress
-solo s attempts limit =
-    rounds limit (attempts + 1) (record { schedule = []; states = start s }) (map (progress_at attempts) s.programs)
+solo s attempts limit = rounds limit (attempts + 1) (solo_begin s) (map (progress_at attempts) s.programs)
 
 -- whether a node has an ending
 abbrev pub has_ended : PlainProgress → Bool
@@ -102,25 +104,9 @@ IsEndedBy f old new = (f ≡ fault.Memory → ⊥) × (new ≡ with_ending (Faul
 abbrev pub short_of_memory : PlainProgress → PlainProgress
 short_of_memory p = if is_some p.ending then p else with_ending (Fault fault.Memory) p
 
--- whether a fault is want of memory
-abbrev pub is_memory : NodeFault → Bool
-is_memory fault.Memory = true
-is_memory fault.Undefined = false
-is_memory fault.Range = false
-is_memory fault.NotMine = false
-is_memory fault.NoChannel = false
-is_memory fault.NoChoice = false
-is_memory fault.Differs = false
-is_memory fault.Full = false
-is_memory fault.Unknown = false
-is_memory fault.Older = false
-is_memory fault.NoThread = false
-
--- whether an ending is want of memory
-abbrev pub is_cut_short : Ending → Bool
-is_cut_short (Fault f) = is_memory f
-is_cut_short Done = false
-is_cut_short Spent = false
+-- the ending that is reported of a node once memory has run out: its own, if it has one
+abbrev pub ending_then : PlainProgress → Ending
+ending_then p = unwrap_or p.ending (Fault fault.Memory)
 
 -- a record and a list of endings hold what a run leaves: the schedule, the configurations, and the ending of each
 -- node, which each node has
@@ -134,11 +120,53 @@ pub record Begins (schedule : List PlainEntry) (s : PlainCourse) : Type 0 where
   pub rest : List PlainEntry
   pub whole : s.schedule ≡ schedule ++ rest
 
--- an ending says that memory ran out, and the schedule is a beginning of what a run leaves
-abbrev pub IsCutShort : PlainCourse × List PlainProgress → List PlainEntry → List Ending → Type 0
-IsCutShort left schedule endings = (list_any is_cut_short endings ≡ true) × Begins schedule left.0
+-- a round of which only the first m visits are made: the other nodes are as they were
+abbrev pub first_visits : ℕ → ℕ → PlainCourse → List PlainProgress → PlainCourse × List PlainProgress
+first_visits limit m s ps = ((round limit s (take m ps)).0, (round limit s (take m ps)).1 ++ drop m ps)
+
+-- memory ran out in visit m of a round, before which the run and its nodes were these: the visit of a node that had no
+-- ending. The run is left as it was there, and so is each node that had an ending; all others end for want of memory
+pub record IsCutAt (m : ℕ) (there : PlainCourse × List PlainProgress) (left : PlainCourse) (endings : List Ending)
+    : Type 0 where
+  pub node : PlainProgress
+  pub visited : slice_get there.1 m ≡ Some node
+  pub under_way : node.ending ≡ None
+  pub course : left ≡ there.0
+  pub each : endings ≡ map ending_then there.1
+
+-- the same in one of the visits of a round
+pub record IsRoundCut (limit : ℕ) (s : PlainCourse) (ps : List PlainProgress) (left : PlainCourse)
+    (endings : List Ending) : Type 0 where
+  pub visits : ℕ
+  pub cut : IsCutAt visits (first_visits limit visits s ps) left endings
+
+-- the same in one of n rounds: the rounds before it are whole
+pub record IsCutShort (limit n : ℕ) (s : PlainCourse) (ps : List PlainProgress) (left : PlainCourse)
+    (endings : List Ending) : Type 0 where
+  pub whole : ℕ
+  pub within : whole < n
+  pub cut : IsRoundCut limit (rounds limit whole s ps).0 (rounds limit whole s ps).1 left endings
+
+-- memory cut the run by one worker short
+abbrev pub IsSoloCut : SystemParts → ℕ → ℕ → PlainCourse → List Ending → Type 0
+IsSoloCut s attempts limit left endings =
+    IsCutShort limit (attempts + 1) (solo_begin s) (map (progress_at attempts) s.programs) left endings
+
+-- what memory that ran out leaves of a whole run: the schedule is a beginning of that run's, an ending says that memory
+-- ran out, and each other is the one that its node has at the end of that run
+pub record IsBeginningOf (run : PlainCourse × List PlainProgress) (left : PlainCourse) (endings : List Ending) : Type 0
+  where
+    pub begins : Begins left.schedule run.0
+    pub at : ℕ
+    pub short : slice_get endings at ≡ Some (Fault fault.Memory)
+    pub each : (i : ℕ) (e : Ending) (p : PlainProgress) → slice_get endings i ≡ Some e → slice_get run.1 i ≡ Some p →
+        (e ≡ Fault fault.Memory) ⊎ (p.ending ≡ Some e)
+
+-- the run under way that a record keeps
+abbrev pub course_in : Record → PlainCourse
+course_in r = record { schedule = r.schedule; states = r.states.items }
 
 -- a record and endings are those of the worker's own run, or memory cut that run short
 abbrev pub IsSoloRun : SystemParts → PlainOptions → Record → List Ending → Type 0
 IsSoloRun s o r endings =
-    IsCutShort (solo s o.attempts o.steps) r.schedule endings ⊎ IsLeftBy (solo s o.attempts o.steps) r endings
+    IsSoloCut s o.attempts o.steps (course_in r) endings ⊎ IsLeftBy (solo s o.attempts o.steps) r endings

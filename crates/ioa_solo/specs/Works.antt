@@ -15,7 +15,7 @@ use Rattle.ioa_system.specs.Parts.{Parts}
 use Rattle.ioa_system.specs.Systems.{SystemParts}
 use Rattle.ioa_turns.specs.NodeTurns.{PlainProgress, progress_at}
 use Rattle.ioa_solo.specs.Meets.{met_in}
-use Rattle.ioa_solo.specs.Solo.{IsCutShort, PlainCourse, course_of, ending_of, solo}
+use Rattle.ioa_solo.specs.Solo.{IsSoloCut, PlainCourse, course_of, ending_of, solo}
 use Rattle.ioa_solo.specs.Told.{IsToldTo}
 use Rattle.ioa_solo.specs.Visits.{PlainVisited, progress_in}
 use Rattle.ioa_solo.specs.declared.visited.Visited.{Visited}
@@ -64,4 +64,4 @@ pub record IsHeldOf (left : PlainCourse × List PlainProgress) (b : PlainBook) (
 -- a book and endings are those of the run by one worker, or memory cut that run short
 abbrev pub IsSoloWork : SystemParts → ℕ → ℕ → PlainBook → List Ending → Type 0
 IsSoloWork s attempts limit b endings =
-    IsCutShort (solo s attempts limit) b.log endings ⊎ IsHeldOf (solo s attempts limit) b endings
+    IsSoloCut s attempts limit (course_of b) endings ⊎ IsHeldOf (solo s attempts limit) b endings

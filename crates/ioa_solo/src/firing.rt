@@ -1,13 +1,14 @@
 //! The commit of what a node fires.
 
 ghost use Rattle.std.specs.Prelude.{◌≡◌, ◌<◌, ◌+◌, IfErr, IfOk, None, OnErr, OnOk, false, length, true};
+ghost use Rattle.ioa_actions.specs.ActionParts.{node_of};
 ghost use Rattle.ioa_solo.specs.Settled.{HasComeBack};
 ghost use Rattle.ioa_schedules.specs.Turns.{IsAtFire};
 ghost use Rattle.ioa_held.specs.Attempts.{IsMissed, IsTaken, commits};
 ghost use Rattle.ioa_turns.specs.Faults as faults;
 ghost use Rattle.ioa_turns.specs.NodeTurns.{kept_in, progress_of};
 ghost use Rattle.ioa_solo.specs.Fires.{IsAfterFire, IsProposedIn, failed_by, missed_by, refused_by};
-ghost use Rattle.ioa_solo.specs.Hands.{Gains};
+ghost use Rattle.ioa_solo.specs.Hands.{GainsAt};
 ghost use Rattle.ioa_solo.specs.Solo.{IsEndedBy};
 ghost use Rattle.ioa_solo.specs.Told.{IsToldTo, WorksOn};
 
@@ -41,9 +42,11 @@ pub(crate) fn commit<O: Origin, L: Ledger, B: Board<O, L>, G: Gate>(
     rooms: &mut Rooms<O>,
 ) -> Result<bool, AllocError>
     requires stands { IsAtFire (progress_of node.old).todo }
+    requires own { node_of proposal.entry.action ≡ (progress_of node.old).program.node }
     requires under_way { node.old.ending ≡ None }
-    ensures gained { Gains 1 0 hand.old hand.new }
+    ensures gained { GainsAt (progress_of node.old).program.node 1 0 hand.old hand.new }
     ensures kept { node.new.attempts ≡ node.old.attempts }
+    ensures same { (progress_of node.new).program ≡ (progress_of node.old).program }
     ensures stopped { OnErr result (node.new.ending ≡ None) }
     ensures stays { B.told ≡ true → OnErr result (B.tells board.new ≡ B.tells board.old) }
     ensures goes { IsToldTo B.told (B.tells board.old) hand.old.pass →
@@ -94,9 +97,11 @@ fn commit_tested<O: Origin, L: Ledger, B: Board<O, L>, G: Gate>(
     rooms: &mut Rooms<O>,
 ) -> Result<bool, AllocError>
     requires stands { IsAtFire (progress_of node.old).todo }
+    requires own { node_of proposal.entry.action ≡ (progress_of node.old).program.node }
     requires under_way { node.old.ending ≡ None }
-    ensures gained { Gains 1 0 hand.old hand.new }
+    ensures gained { GainsAt (progress_of node.old).program.node 1 0 hand.old hand.new }
     ensures kept { node.new.attempts ≡ node.old.attempts }
+    ensures same { (progress_of node.new).program ≡ (progress_of node.old).program }
     ensures stopped { OnErr result (node.new.ending ≡ None) }
     ensures stays { B.told ≡ true → OnErr result (B.tells board.new ≡ B.tells board.old) }
     ensures goes { IsToldTo B.told (B.tells board.old) hand.old.pass →
@@ -173,6 +178,7 @@ fn attempt<O: Origin, L: Ledger, B: Board<O, L>>(
 ) -> Result<Receipt, Miss>
     ensures share { hand.new.share ≡ hand.old.share + commits result }
     ensures receipts { hand.new.receipts ≡ hand.old.receipts }
+    ensures entry { IfOk result (λ r. r.entry ≡ proposal.entry) }
     ensures taken { B.told ≡ true → IfOk result (λ r.
         IsTaken (B.tells board.old) proposal hand.old.pass r.index r.entry (B.tells board.new) hand.new.pass) }
     ensures missed { B.told ≡ true → IfErr result (λ m.
@@ -202,6 +208,7 @@ fn attempt_with<O: Origin, L: Ledger, B: Board<O, L>>(
 ) -> Result<Taken<O>, Missed<O>>
     ensures share { hand.new.share ≡ hand.old.share + commits result }
     ensures receipts { hand.new.receipts ≡ hand.old.receipts }
+    ensures entry { IfOk result (λ t. t.receipt.entry ≡ proposal.entry) }
     ensures taken { B.told ≡ true → IfOk result (λ t. IsTaken (B.tells board.old) proposal hand.old.pass
         t.receipt.index t.receipt.entry (B.tells board.new) hand.new.pass) }
     ensures missed { B.told ≡ true → IfErr result (λ m.
@@ -216,6 +223,7 @@ fn attempt_with<O: Origin, L: Ledger, B: Board<O, L>>(
 #[inline(never)]
 fn after_miss(node: &mut Progress, miss: Miss)
     ensures kept { node.new.attempts ≡ node.old.attempts }
+    ensures same { (progress_of node.new).program ≡ (progress_of node.old).program }
     ensures missed { progress_of node.new ≡ missed_by miss (progress_of node.old) }
 {
     match miss {
@@ -227,6 +235,7 @@ fn after_miss(node: &mut Progress, miss: Miss)
 /// What follows from a proposal that the book refused: nothing, if it was stale.
 fn after_refusal(node: &mut Progress, refusal: CommitRefusal)
     ensures kept { node.new.attempts ≡ node.old.attempts }
+    ensures same { (progress_of node.new).program ≡ (progress_of node.old).program }
     ensures refused { progress_of node.new ≡ refused_by refusal (progress_of node.old) }
 {
     if let Some(fault) = fault_of_refusal(refusal) {
@@ -240,6 +249,7 @@ fn after_refusal(node: &mut Progress, refusal: CommitRefusal)
 pub(crate) fn after_fault(node: &mut Progress, fault: StepFault) -> Result<bool, AllocError>
     requires { IsAtFire (progress_of node.old).todo }
     ensures kept { node.new.attempts ≡ node.old.attempts }
+    ensures same { (progress_of node.new).program ≡ (progress_of node.old).program }
     ensures failed { OnOk result (progress_of node.new ≡ failed_by fault (progress_of node.old)) }
     ensures real { OnOk result (fault ≡ StepFault.Memory → ⊥) }
     ensures unchanged { OnErr result (node.new.ending ≡ node.old.ending) }
@@ -262,6 +272,7 @@ pub(crate) fn after_fault(node: &mut Progress, fault: StepFault) -> Result<bool,
 #[inline(never)]
 pub(crate) fn end_by_fault(node: &mut Progress, fault: NodeFault) -> Result<(), AllocError>
     ensures kept { node.new.attempts ≡ node.old.attempts }
+    ensures same { (progress_of node.new).program ≡ (progress_of node.old).program }
     ensures ended { OnOk result (IsEndedBy fault (progress_of node.old) (progress_of node.new)) }
     ensures unchanged { OnErr result (node.new.ending ≡ node.old.ending) }
 {

@@ -3,12 +3,12 @@
 ghost use Rattle.std.specs.Prelude.{◌≡◌, ◌⊎◌, ◌+◌, None, OnErr, OnOk, map, true};
 ghost use Rattle.std.specs.List.{list_all, list_any};
 ghost use Rattle.ioa_solo.specs.Fires.{Comes};
-ghost use Rattle.ioa_solo.specs.Hands.{Gains};
+ghost use Rattle.ioa_solo.specs.Hands.{Gains, GainsAt};
 ghost use Rattle.ioa_solo.specs.Solo as spec;
-ghost use Rattle.ioa_solo.specs.Solo.{Begins, IsCutShort, course_of, ending_of, has_ended, is_under_way, round};
-ghost use Rattle.ioa_solo.specs.Solo.{rounds, short_of_memory, visit_unless_ended};
+ghost use Rattle.ioa_solo.specs.Solo.{IsCutShort, IsRoundCut, course_of, ending_of, ending_then, has_ended};
+ghost use Rattle.ioa_solo.specs.Solo.{is_under_way, round, rounds, short_of_memory, visit_unless_ended};
 ghost use Rattle.ioa_solo.specs.Told.{IsToldTo, WorksOn};
-ghost use Rattle.ioa_solo.specs.Visits.{attempts_left, numbers_of, progress_in};
+ghost use Rattle.ioa_solo.specs.Visits.{attempts_left, number_in, numbers_of, progress_in};
 
 use crate::hand::Hand;
 use crate::visited::Visited;
@@ -32,13 +32,13 @@ pub(crate) fn go_on<O: Origin, L: Ledger, B: Board<O, L>, G: Gate>(
     nodes: &mut [Visited<O>],
     hand: &mut Hand<L>,
 )
-    ensures gained { Gains (attempts_left nodes.old) 0 hand.old hand.new }
+    ensures gained { Gains (attempts_left nodes.old) (λ _. 0) hand.old hand.new }
     ensures numbers { numbers_of nodes.new ≡ numbers_of nodes.old }
     ensures goes { IsToldTo B.told (B.tells board.old) hand.old.pass →
         WorksOn (B.tells board.old) hand.old (B.tells board.new) hand.new }
     ensures solo { IsToldTo B.told (B.tells board.old) hand.old.pass →
-        (IsCutShort (rounds (B.tells board.old).limit (attempts + 1) (course_of (B.tells board.old))
-        (map progress_in nodes.old)) (B.tells board.new).log (map ending_of (map progress_in nodes.new)))
+        (IsCutShort (B.tells board.old).limit (attempts + 1) (course_of (B.tells board.old))
+        (map progress_in nodes.old) (course_of (B.tells board.new)) (map ending_of (map progress_in nodes.new)))
         ⊎ ((course_of (B.tells board.new), map progress_in nodes.new)
         ≡ rounds (B.tells board.old).limit (attempts + 1) (course_of (B.tells board.old))
         (map progress_in nodes.old)) }
@@ -74,9 +74,8 @@ fn go_rounds<O: Origin, L: Ledger, B: Board<O, L>, G: Gate>(
         ≡ rounds (B.tells board.old).limit (attempts + 1) (course_of (B.tells board.old))
         (map progress_in nodes.old)) }
     ensures cut { IsToldTo B.told (B.tells board.old) hand.old.pass → OnErr result
-        (Begins (B.tells board.new).log
-        (rounds (B.tells board.old).limit (attempts + 1) (course_of (B.tells board.old))
-        (map progress_in nodes.old)).0) }
+        (IsCutShort (B.tells board.old).limit (attempts + 1) (course_of (B.tells board.old))
+        (map progress_in nodes.old) (course_of (B.tells board.new)) (map ending_then (map progress_in nodes.new))) }
 {
     for _round in 0..attempts {
         let committed = hand.share.count();
@@ -116,8 +115,8 @@ fn go_round<O: Origin, L: Ledger, B: Board<O, L>, G: Gate>(
         ((course_of (B.tells board.new), map progress_in nodes.new)
         ≡ round (B.tells board.old).limit (course_of (B.tells board.old)) (map progress_in nodes.old)) }
     ensures cut { IsToldTo B.told (B.tells board.old) hand.old.pass → OnErr result
-        (Begins (B.tells board.new).log
-        (round (B.tells board.old).limit (course_of (B.tells board.old)) (map progress_in nodes.old)).0) }
+        (IsRoundCut (B.tells board.old).limit (course_of (B.tells board.old)) (map progress_in nodes.old)
+        (course_of (B.tells board.new)) (map ending_then (map progress_in nodes.new))) }
 {
     for position in 0..nodes.len() {
         visit_unless_ended(
@@ -144,8 +143,11 @@ fn visit_unless_ended<O: Origin, L: Ledger, B: Board<O, L>, G: Gate>(
     hand: &mut Hand<L>,
     spare: &mut Option<Spare<Entry>>,
 ) -> Result<(), AllocError>
-    ensures gained { Gains node.old.progress.attempts node.new.progress.attempts hand.old hand.new }
+    ensures gained { GainsAt (number_in node.old) node.old.progress.attempts node.new.progress.attempts
+        hand.old hand.new }
+    ensures same { number_in node.new ≡ number_in node.old }
     ensures number { node.new.number ≡ node.old.number }
+    ensures began { OnErr result (node.old.progress.ending ≡ None) }
     ensures stopped { OnErr result (node.new.progress.ending ≡ None) }
     ensures stays { B.told ≡ true → OnErr result (B.tells board.new ≡ B.tells board.old) }
     ensures goes { IsToldTo B.told (B.tells board.old) hand.old.pass →
@@ -172,7 +174,9 @@ fn visit_under_way<O: Origin, L: Ledger, B: Board<O, L>, G: Gate>(
     spare: &mut Option<Spare<Entry>>,
 ) -> Result<(), AllocError>
     requires { node.old.progress.ending ≡ None }
-    ensures gained { Gains node.old.progress.attempts node.new.progress.attempts hand.old hand.new }
+    ensures gained { GainsAt (number_in node.old) node.old.progress.attempts node.new.progress.attempts
+        hand.old hand.new }
+    ensures same { number_in node.new ≡ number_in node.old }
     ensures number { node.new.number ≡ node.old.number }
     ensures stopped { OnErr result (node.new.progress.ending ≡ None) }
     ensures stays { B.told ≡ true → OnErr result (B.tells board.new ≡ B.tells board.old) }

@@ -1,6 +1,6 @@
 //! Laws of runs. Each law is the contract of a function that does nothing.
 
-ghost use Rattle.std.specs.Prelude.{◌≡◌, ◌≢◌, true, ℕ, Some};
+ghost use Rattle.std.specs.Prelude.{◌≡◌, ◌≢◌, true, ℕ, List, Some};
 ghost use Rattle.std.specs.List.{AllByRecursion, list_all};
 ghost use Rattle.ioa_compose.specs.Automata.{IsExecution};
 ghost use Rattle.ioa_compose.specs.JointStep.{IsJointStep};
@@ -11,7 +11,7 @@ ghost use Rattle.ioa_system.specs.Systems.{SystemParts};
 ghost use Rattle.ioa_record.specs.declared.ending.Ending.{Ending};
 ghost use Rattle.ioa_record.specs.declared.ending.NodeFault.{NodeFault};
 ghost use Rattle.ioa_record.specs.Recorded.{ReplaysWithin};
-ghost use Rattle.ioa_solo.specs.Solo.{has_ended, rounds, solo};
+ghost use Rattle.ioa_solo.specs.Solo.{IsBeginningOf, IsSoloCut, PlainCourse, has_ended, rounds, solo};
 
 /// The run by one worker comes to its end: each node has an ending, and more rounds change nothing, so there are rounds
 /// enough (profile). Its schedule is no longer than the limit. If the system declares each thing once, the schedule is
@@ -29,4 +29,11 @@ pub fn solo_law()
         AllByRecursion (λ p. p.ending ≢ Some (Ending.Fault NodeFault.Differs)) (solo s attempts limit).1 }
     ensures there { (s : SystemParts) (attempts limit : ℕ) → IsWellDeclared s →
         AllByRecursion (λ p. p.ending ≢ Some (Ending.Fault NodeFault.Unknown)) (solo s attempts limit).1 }
+{}
+
+/// A run that memory cut short is a beginning of the whole run (profile): its schedule is a beginning of that run's, an
+/// ending says that memory ran out, and each other ending is the one that its node has at the end of that run.
+pub fn cut_law()
+    ensures { (s : SystemParts) (attempts limit : ℕ) (left : PlainCourse) (endings : List Ending) →
+        IsSoloCut s attempts limit left endings → IsBeginningOf (solo s attempts limit) left endings }
 {}

@@ -4,7 +4,7 @@
 //!
 //! **Must not know**: texts, how a system was checked, and reports.
 //!
-//! **Laws**: `solo_law`.
+//! **Laws**: `cut_law`, `solo_law`.
 #![tactic(auto)]
 
 mod endings;
@@ -20,6 +20,6 @@ mod working;
 
 pub use endings::{Endings, GREATEST_NODES};
 pub use hand::Hand;
-pub use laws::solo_law;
+pub use laws::{cut_law, solo_law};
 pub use running::run;
 pub use working::work;

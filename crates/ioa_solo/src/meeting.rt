@@ -40,6 +40,7 @@ pub(crate) fn meet<O: Origin, L: Ledger, B: Board<O, L>>(
     requires own { program_of (progress_in node.old).program.node (shared_of_value system.now).programs
         ≡ Some (progress_in node.old).program }
     ensures kept { node.new.progress.attempts ≡ node.old.progress.attempts }
+    ensures program { (progress_in node.new).program ≡ (progress_in node.old).program }
     ensures number { node.new.number ≡ node.old.number }
     ensures share { hand.new.share ≡ hand.old.share }
     ensures receipts { hand.new.receipts ≡ hand.old.receipts }
@@ -64,6 +65,7 @@ fn meet_by_look<O: Origin, L: Ledger, B: Board<O, L>>(
     hand: &mut Hand<L>,
 ) -> Result<(), AllocError>
     ensures kept { node.new.progress.attempts ≡ node.old.progress.attempts }
+    ensures program { (progress_in node.new).program ≡ (progress_in node.old).program }
     ensures number { node.new.number ≡ node.old.number }
     ensures share { hand.new.share ≡ hand.old.share }
     ensures receipts { hand.new.receipts ≡ hand.old.receipts }
@@ -89,6 +91,7 @@ fn meet_by_look<O: Origin, L: Ledger, B: Board<O, L>>(
 fn recognize<O: Origin>(node: &mut Progress, look: &Place<O>)
     requires { is_some look.now ≡ true }
     ensures kept { node.new.attempts ≡ node.old.attempts }
+    ensures same { (progress_of node.new).program ≡ (progress_of node.old).program }
     ensures met { IfSome look.now (λ s. progress_of node.new ≡ met_in (read_confs s.reads) (progress_of node.old)) }
 {
     match look.look() {
@@ -100,6 +103,7 @@ fn recognize<O: Origin>(node: &mut Progress, look: &Place<O>)
 /// The same on the look.
 fn recognize_on<O: Origin>(node: &mut Progress, snapshot: &Snapshot<O>)
     ensures kept { node.new.attempts ≡ node.old.attempts }
+    ensures same { (progress_of node.new).program ≡ (progress_of node.old).program }
     ensures met { progress_of node.new ≡ met_in (read_confs snapshot.now.reads) (progress_of node.old) }
 {
     if let Some(fault) = fault_shown(node.program(), snapshot) {

@@ -21,7 +21,7 @@ use ioa_held::{FinishFault, Share};
 use ioa_passes::Pass;
 use ioa_receipts::Receipts;
 use ioa_record::{Ending, Options, Record};
-use ioa_shared::Solo;
+use ioa_shared::{Opening, Solo};
 use ioa_sharing::{Maker, MakerOf, Origin, SharedOf};
 use ioa_system::{Program, System};
 use std::alloc::{AllocError, Global};
@@ -32,8 +32,9 @@ use std::sync::ledger::{Blank, Ledger};
 /// Runs a system by one worker (profile). The worker goes round the nodes in order until each has an ending. A visit of
 /// a node that has no attempt left ends it; else one attempt is used: a look at the node in the book of commits, one
 /// turn on what it shows, and the commit of the action that the turn fires. Returns the record, and an ending for each
-/// node, node 0 first. If memory runs out on the way, each node without an ending gets that fault. `AllocError` is
-/// returned only if a run cannot begin, or what it leaves cannot be listed.
+/// node, node 0 first. If memory runs out in a visit, the run is left as it was before it, and each node that has no
+/// ending there gets that fault. `AllocError` is returned only if a run cannot begin, or what it leaves cannot be
+/// listed.
 pub fn run<G: Gate>(
     alloc: Global,
     system: &Arc<System>,
@@ -49,8 +50,9 @@ pub fn run<G: Gate>(
     run_by::<Brand, Brand, G>(alloc, Maker::new(), Blank::new(1), system, options, gate)
 }
 
-/// The same by a maker of this origin, which numbers what the book of commits holds, and with a share of this ledger.
-fn run_by<O: Origin, L: Ledger, G: Gate>(
+/// The same by a maker of this origin, which numbers what the book of commits holds, and with a share of this ledger. The
+/// book is opened with this system and this limit, for which the origin stands too.
+fn run_by<O: Opening, L: Ledger, G: Gate>(
     alloc: Global,
     maker: Maker,
     blank: Blank,
@@ -59,6 +61,7 @@ fn run_by<O: Origin, L: Ledger, G: Gate>(
     gate: &G,
 ) -> Result<(Record, Vec<Ending>), AllocError>
     requires maker { maker_name maker ≡ O.name }
+    requires opened { (arc_value system.now ≡ O.system) × (options.now.steps ≡ O.limit) }
     requires name { blank.name ≡ L.name }
     requires parts { blank.parts ≡ L.parts }
     requires one { L.parts ≡ 1 }
@@ -74,7 +77,7 @@ fn run_by<O: Origin, L: Ledger, G: Gate>(
 }
 
 /// The same of a system that the maker has numbered.
-fn run_on<O: Origin, L: Ledger, G: Gate>(
+fn run_on<O: Opening, L: Ledger, G: Gate>(
     alloc: Global,
     maker: MakerOf<O>,
     blank: Blank,
@@ -82,6 +85,7 @@ fn run_on<O: Origin, L: Ledger, G: Gate>(
     options: &Options,
     gate: &G,
 ) -> Result<(Record, Vec<Ending>), AllocError>
+    requires opened { (shared_of_value system.now ≡ O.system) × (options.now.steps ≡ O.limit) }
     requires name { blank.name ≡ L.name }
     requires parts { blank.parts ≡ L.parts }
     requires one { L.parts ≡ 1 }
@@ -122,7 +126,7 @@ fn hand_of<L: Ledger>(
 }
 
 /// Takes the book apart. There is no fault but want of memory.
-fn finish<O: Origin, L: Ledger>(
+fn finish<O: Opening, L: Ledger>(
     alloc: Global,
     solo: Solo<O, L>,
     hand: Hand<L>,

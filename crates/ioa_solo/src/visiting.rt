@@ -13,7 +13,7 @@ ghost use Rattle.ioa_turns.specs.NodeTurns.{arguments_in, block_of, end_of, kept
 ghost use Rattle.ioa_values.specs.Outcome.{Answers};
 ghost use Rattle.ioa_solo.specs.Fires as spec;
 ghost use Rattle.ioa_solo.specs.Fires.{Comes, IsAfterEnd, IsAfterFire};
-ghost use Rattle.ioa_solo.specs.Hands.{Gains};
+ghost use Rattle.ioa_solo.specs.Hands.{GainsAt};
 ghost use Rattle.ioa_solo.specs.Settled.{IsSettled, IsSettledIn, IsTurned};
 ghost use Rattle.ioa_solo.specs.Solo.{IsEndedBy, attempt, visit};
 ghost use Rattle.ioa_solo.specs.Told.{IsToldTo, IsUpTo, WorksOn};
@@ -51,7 +51,9 @@ pub(crate) fn visit<O: Origin, L: Ledger, B: Board<O, L>, G: Gate>(
 ) -> Result<bool, AllocError>
     requires under_way { node.old.ending ≡ None }
     requires settled { is_settled ≡ true → IsSettledIn (progress_of node.old) look.old }
-    ensures gained { Gains node.old.attempts node.new.attempts hand.old hand.new }
+    ensures gained { GainsAt (progress_of node.old).program.node node.old.attempts node.new.attempts
+        hand.old hand.new }
+    ensures same { (progress_of node.new).program ≡ (progress_of node.old).program }
     ensures stopped { OnErr result (node.new.ending ≡ None) }
     ensures stays { B.told ≡ true → OnErr result (B.tells board.new ≡ B.tells board.old) }
     ensures goes { IsToldTo B.told (B.tells board.old) hand.old.pass →
@@ -87,8 +89,9 @@ fn attempt<O: Origin, L: Ledger, B: Board<O, L>, G: Gate>(
 ) -> Result<bool, AllocError>
     requires under_way { node.old.ending ≡ None }
     requires settled { is_settled ≡ true → IsSettledIn (progress_of node.old) look.old }
-    ensures gained { Gains 1 0 hand.old hand.new }
+    ensures gained { GainsAt (progress_of node.old).program.node 1 0 hand.old hand.new }
     ensures kept { node.new.attempts ≡ node.old.attempts }
+    ensures same { (progress_of node.new).program ≡ (progress_of node.old).program }
     ensures stopped { OnErr result (node.new.ending ≡ None) }
     ensures stays { B.told ≡ true → OnErr result (B.tells board.new ≡ B.tells board.old) }
     ensures goes { IsToldTo B.told (B.tells board.old) hand.old.pass →
@@ -122,6 +125,7 @@ fn attempt<O: Origin, L: Ledger, B: Board<O, L>, G: Gate>(
 #[inline(never)]
 fn end_attempt(node: &mut Progress, fault: NodeFault) -> Result<bool, AllocError>
     ensures kept { node.new.attempts ≡ node.old.attempts }
+    ensures same { (progress_of node.new).program ≡ (progress_of node.old).program }
     ensures ended { OnOk result (IsEndedBy fault (progress_of node.old) (progress_of node.new)) }
     ensures unchanged { OnErr result (node.new.ending ≡ node.old.ending) }
     ensures unsettled { IfOk result (λ b. b ≡ false) }
@@ -145,10 +149,12 @@ fn attempt_unless_settled<O: Origin, L: Ledger, B: Board<O, L>, G: Gate>(
     rooms: &mut Rooms<O>,
 ) -> Result<bool, AllocError>
     requires seen { is_some look.now ≡ true }
+    requires own { IfSome look.now (λ s. s.node ≡ (progress_of node.old).program.node) }
     requires under_way { node.old.ending ≡ None }
     requires settled { is_settled ≡ true → IsSettledIn (progress_of node.old) look.now }
-    ensures gained { Gains 1 0 hand.old hand.new }
+    ensures gained { GainsAt (progress_of node.old).program.node 1 0 hand.old hand.new }
     ensures kept { node.new.attempts ≡ node.old.attempts }
+    ensures same { (progress_of node.new).program ≡ (progress_of node.old).program }
     ensures stopped { OnErr result (node.new.ending ≡ None) }
     ensures stays { B.told ≡ true → OnErr result (B.tells board.new ≡ B.tells board.old) }
     ensures goes { IsToldTo B.told (B.tells board.old) hand.old.pass →
@@ -189,6 +195,7 @@ pub(crate) fn look_at<O: Origin, L: Ledger, B: Board<O, L>>(
     pass: &mut Pass,
 ) -> Result<bool, ViewFault>
     ensures seen { OnOk result (is_some look.new ≡ true) }
+    ensures own { OnOk result (IfSome look.new (λ s. s.node ≡ node)) }
     ensures told { IsToldTo B.told (B.tells board.old) pass.old →
         OnOk result (look.new ≡ Some (snapshot_after node (B.tells board.old).start (B.tells board.old).log)) }
     ensures fault { IsToldTo B.told (B.tells board.old) pass.old →
@@ -215,9 +222,11 @@ fn attempt_seen<O: Origin, L: Ledger, B: Board<O, L>, G: Gate>(
     rooms: &mut Rooms<O>,
 ) -> Result<bool, AllocError>
     requires seen { is_some look.now ≡ true }
+    requires own { IfSome look.now (λ s. s.node ≡ (progress_of node.old).program.node) }
     requires under_way { node.old.ending ≡ None }
-    ensures gained { Gains 1 0 hand.old hand.new }
+    ensures gained { GainsAt (progress_of node.old).program.node 1 0 hand.old hand.new }
     ensures kept { node.new.attempts ≡ node.old.attempts }
+    ensures same { (progress_of node.new).program ≡ (progress_of node.old).program }
     ensures stopped { OnErr result (node.new.ending ≡ None) }
     ensures stays { B.told ≡ true → OnErr result (B.tells board.new ≡ B.tells board.old) }
     ensures goes { IsToldTo B.told (B.tells board.old) hand.old.pass →
@@ -252,9 +261,11 @@ fn attempt_on<O: Origin, L: Ledger, B: Board<O, L>, G: Gate>(
     spare: &mut Option<Spare<Entry>>,
     rooms: &mut Rooms<O>,
 ) -> Result<bool, AllocError>
+    requires own { snapshot.now.node ≡ (progress_of node.old).program.node }
     requires under_way { node.old.ending ≡ None }
-    ensures gained { Gains 1 0 hand.old hand.new }
+    ensures gained { GainsAt (progress_of node.old).program.node 1 0 hand.old hand.new }
     ensures kept { node.new.attempts ≡ node.old.attempts }
+    ensures same { (progress_of node.new).program ≡ (progress_of node.old).program }
     ensures stopped { OnErr result (node.new.ending ≡ None) }
     ensures stays { B.told ≡ true → OnErr result (B.tells board.new ≡ B.tells board.old) }
     ensures goes { IsToldTo B.told (B.tells board.old) hand.old.pass →
@@ -290,9 +301,11 @@ fn after_turn<O: Origin, L: Ledger, B: Board<O, L>, G: Gate>(
     requires stands { StandsAt (progress_of node.old).todo turn }
     requires turned { IsTurned (kept_in node.old) snapshot.now (progress_of node.old)
         (end_of (arguments_in node.old) turn) }
+    requires own { snapshot.now.node ≡ (progress_of node.old).program.node }
     requires under_way { node.old.ending ≡ None }
-    ensures gained { Gains 1 0 hand.old hand.new }
+    ensures gained { GainsAt (progress_of node.old).program.node 1 0 hand.old hand.new }
     ensures kept { node.new.attempts ≡ node.old.attempts }
+    ensures same { (progress_of node.new).program ≡ (progress_of node.old).program }
     ensures stopped { OnErr result (node.new.ending ≡ None) }
     ensures stays { B.told ≡ true → OnErr result (B.tells board.new ≡ B.tells board.old) }
     ensures goes { IsToldTo B.told (B.tells board.old) hand.old.pass →
@@ -367,9 +380,11 @@ fn go_past<O: Origin, L: Ledger, B: Board<O, L>, G: Gate>(
     requires stands { IsAtFiring (firing_of firing.now) (progress_of node.old).todo }
     requires turned { IsTurned (kept_in node.old) snapshot.now (progress_of node.old)
         (fires (firing_of firing.now).kind (firing_of firing.now).action (arguments_in node.old)) }
+    requires own { snapshot.now.node ≡ (progress_of node.old).program.node }
     requires under_way { node.old.ending ≡ None }
-    ensures gained { Gains 1 0 hand.old hand.new }
+    ensures gained { GainsAt (progress_of node.old).program.node 1 0 hand.old hand.new }
     ensures kept { node.new.attempts ≡ node.old.attempts }
+    ensures same { (progress_of node.new).program ≡ (progress_of node.old).program }
     ensures stopped { OnErr result (node.new.ending ≡ None) }
     ensures stays { B.told ≡ true → OnErr result (B.tells board.new ≡ B.tells board.old) }
     ensures goes { IsToldTo B.told (B.tells board.old) hand.old.pass →

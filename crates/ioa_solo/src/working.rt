@@ -1,14 +1,15 @@
 //! The work of a worker.
 
-ghost use Rattle.std.specs.Prelude.{◌≡◌, ◌⊎◌, ◌≤◌, ◌+◌, ◌*◌, ◌++◌, [], IfOk, IfSome, OnOk, Some, length, map, true};
+ghost use Rattle.std.specs.Prelude.{◌≡◌, ◌⊎◌, ◌≤◌, ◌+◌, ◌*◌, ◌++◌, ◌∷◌, [], ℤ, Bool, IfOk, IfSome, OnOk, Some};
+ghost use Rattle.std.specs.Prelude.{filter, length, map, true};
 ghost use Rattle.std.specs.Option.{option_copied};
 ghost use Rattle.ioa_commits.specs.Books.{states_held};
 ghost use Rattle.ioa_sharing.specs.Named.{shared_of_value};
 ghost use Rattle.ioa_turns.specs.NodeTurns.{progress_at};
-ghost use Rattle.ioa_solo.specs.Hands.{Gains};
+ghost use Rattle.ioa_solo.specs.Hands.{Earns};
 ghost use Rattle.ioa_solo.specs.Meets.{met_in};
 ghost use Rattle.ioa_solo.specs.Told.{IsToldTo, IsUpTo, WorksOn};
-ghost use Rattle.ioa_solo.specs.Visits.{attempts_left, progress_in, visited_of};
+ghost use Rattle.ioa_solo.specs.Visits.{attempts_left, number_in, progress_in, visited_of};
 ghost use Rattle.ioa_solo.specs.Works as spec;
 ghost use Rattle.ioa_solo.specs.Works.{IsAlone, IsSoloWork, all_met, met_first};
 
@@ -32,7 +33,7 @@ use std::sync::ledger::Ledger;
 /// the steps of a visit.
 ///
 /// Returns an ending for each node. The share rises by the number of receipts that are added behind those that were
-/// there, of which there are at most as many as the nodes have attempts.
+/// there. Of each node's actions there are at most as many among them as it has attempts, and of no other node's any.
 pub fn work<O: Origin, L: Ledger, B: Board<O, L>, G: Gate>(
     alloc: Global,
     system: &SharedOf<O, System, Global>,
@@ -45,7 +46,7 @@ pub fn work<O: Origin, L: Ledger, B: Board<O, L>, G: Gate>(
 ) -> Endings
     requires { length nodes.now ≤ GREATEST_NODES }
     ensures ended { length result ≡ length nodes.now }
-    ensures gained { Gains (attempts * length nodes.now) 0 hand.old hand.new }
+    ensures earned { Earns attempts nodes.now hand.old hand.new }
     ensures goes { IsToldTo B.told (B.tells board.old) hand.old.pass →
         WorksOn (B.tells board.old) hand.old (B.tells board.new) hand.new }
     ensures solo { IsAlone B.told (B.tells board.old) hand.old.pass (shared_of_value system.now) nodes.now →
@@ -65,7 +66,7 @@ fn nodes_of<'a, O: Origin, L: Ledger, B: Board<O, L>>(
     attempts: u64,
     hand: &mut Hand<L>,
 ) -> Vec<Visited<'a, O>>
-    ensures few { attempts_left result.items ≤ attempts * length nodes.now }
+    ensures few { (those : ℤ → Bool) → attempts_left result.items those ≤ attempts * length (filter those nodes.now) }
     ensures share { hand.new.share ≡ hand.old.share }
     ensures receipts { hand.new.receipts ≡ hand.old.receipts }
     ensures same { B.told ≡ true → B.tells board.new ≡ B.tells board.old }
@@ -90,7 +91,8 @@ fn start_nodes<'a, O: Origin, L: Ledger, B: Board<O, L>>(
     attempts: u64,
     hand: &mut Hand<L>,
 ) -> Result<Vec<Visited<'a, O>>, AllocError>
-    ensures few { IfOk result (λ v. attempts_left v.items ≤ attempts * length nodes.now) }
+    ensures few { (those : ℤ → Bool) →
+        IfOk result (λ v. attempts_left v.items those ≤ attempts * length (filter those nodes.now)) }
     ensures share { hand.new.share ≡ hand.old.share }
     ensures receipts { hand.new.receipts ≡ hand.old.receipts }
     ensures same { B.told ≡ true → B.tells board.new ≡ B.tells board.old }
@@ -116,7 +118,8 @@ fn start_node<'a, O: Origin, L: Ledger, B: Board<O, L>>(
     hand: &mut Hand<L>,
     visited: &mut Vec<Visited<'a, O>>,
 ) -> Result<(), AllocError>
-    ensures few { OnOk result (attempts_left visited.new.items ≤ attempts_left visited.old.items + attempts) }
+    ensures few { (those : ℤ → Bool) → OnOk result (attempts_left visited.new.items those
+        ≤ attempts_left visited.old.items those + attempts * length (filter those (node ∷ []))) }
     ensures share { hand.new.share ≡ hand.old.share }
     ensures receipts { hand.new.receipts ≡ hand.old.receipts }
     ensures same { B.told ≡ true → B.tells board.new ≡ B.tells board.old }
@@ -148,6 +151,7 @@ fn first_visited<'a, O: Origin, L: Ledger, B: Board<O, L>>(
 ) -> Result<Visited<'a, O>, AllocError>
     requires own { spec.program_of program.now.node (shared_of_value system.now).programs ≡ Some program.now }
     ensures all { IfOk result (λ n. n.progress.attempts ≡ attempts) }
+    ensures program { IfOk result (λ n. number_in n ≡ program.now.node) }
     ensures share { hand.new.share ≡ hand.old.share }
     ensures receipts { hand.new.receipts ≡ hand.old.receipts }
     ensures number { IfOk result (λ n. n.number ≡ program.now.node) }

@@ -1,12 +1,27 @@
 use Rattle.std.proofs.Common.{◌≡◌, ◌++◌, ◌∷◌, [], List, Some, sym, ap, ◌∙◌}
+use Rattle.ioa_actions.specs.ActionParts.{node_of}
 use Rattle.ioa_receipts.specs.declared.receipts.Receipt.{Receipt}
+use Rattle.ioa_transitions.specs.Entries.{PlainEntry}
 use Rattle.ioa_turns.specs.NodeTurns.{PlainProgress, progress_of}
 use Rattle.ioa_solo.specs.Fires.{IsProposedIn}
 use Rattle.ioa_solo.specs.Solo.{course_of}
 use Rattle.ioa_solo.specs.Told.{IsToldTo}
+use Rattle.ioa_solo.proofs.Gains.{gained_at_one}
 use Rattle.ioa_solo.proofs.GoesOn.{goes_by_commit}
 use Rattle.ioa_solo.proofs.ToldFires.{taken_comes}
 use Rattle.ioa_solo.proofs.firing.commit.Goals as goal
+
+pub returns-in-Some-clause-gained : goal.returns-in-Some-clause-gained
+returns-in-Some-clause-gained g c =
+    gained_at_one _ _ _ _ _ c.in-Some.taken.receipt c.in-Some.ensures.share
+    (c.put.ensures ∙ ap (λ (l : List Receipt). l ++ c.in-Some.taken.receipt ∷ []) c.make_ready.ensures.kept)
+    (ap (λ (e : PlainEntry). node_of e.action) c.in-Some.ensures.taken.taken.commit.entry ∙ c.requires.own)
+
+pub commit_tested-requires-clause-own : goal.commit_tested-requires-clause-own
+commit_tested-requires-clause-own g c =
+    let kept = c.attempt_quickly.ensures.kept c.in-None.is in
+    let offered : c.args.proposal ≡ c.in-Some-offer.proposal = let both : Some c.args.proposal ≡ Some c.in-Some-offer.proposal = sym kept.0 ∙ c.in-Some-offer.is in cc in
+    rw (← offered) c.requires.own
 
 pub returns-in-Some-clause-goes : goal.returns-in-Some-clause-goes
 returns-in-Some-clause-goes g c = λ t p.

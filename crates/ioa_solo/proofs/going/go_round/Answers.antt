@@ -1,16 +1,15 @@
 use Rattle.std.proofs.Common.{◌<◌, ◌∙◌, length, refl, arith, rules}
 use Rattle.ioa_solo.specs.Told.{IsToldTo}
-use Rattle.ioa_solo.specs.Visits.{progress_in}
-use Rattle.ioa_solo.proofs.Beginnings.{round_cut}
+use Rattle.ioa_solo.specs.Visits.{number_in, progress_in}
 use Rattle.ioa_solo.proofs.Gains.{gained_at, gained_none}
 use Rattle.ioa_solo.proofs.GoesOn.{goes_further}
-use Rattle.ioa_solo.proofs.Rounds.{if_failed, numbers_set, under_way_at}
-use Rattle.ioa_solo.proofs.ToldRounds.{round_begins, round_ends, round_goes_on}
+use Rattle.ioa_solo.proofs.Rounds.{if_failed, same_set, under_way_at}
+use Rattle.ioa_solo.proofs.ToldRounds.{round_begins, round_cut, round_ends, round_goes_on}
 use Rattle.ioa_solo.proofs.going.go_round.Goals as goal
 
 pub loop-position-init : goal.loop-position-init
 loop-position-init g c = record {
-  gained = gained_none _ _ _ _ _ _ (omega arith) refl refl;
+  gained = gained_none _ _ _ _ _ refl refl;
   numbers = refl;
   told = λ t. round_begins _ _ _ _ t.not_ahead;
 }
@@ -18,12 +17,12 @@ loop-position-init g c = record {
 pub returns-in_err-visit_unless_ended-clause-gained : goal.returns-in_err-visit_unless_ended-clause-gained
 returns-in_err-visit_unless_ended-clause-gained g c =
     let within : c.loop-position.position < length c.loop-position.nodes = search rules in
-    gained_at _ _ _ _ c.index-nodes-position.result _ _ _ _ _ _ _ within c.loop-position.invariant.gained c.visit_unless_ended.ensures.gained
+    gained_at number_in (λ n. n.progress.attempts) _ c.loop-position.nodes c.loop-position.position c.index-nodes-position.result c.visit_unless_ended.new.node _ _ _ _ _ _ within c.visit_unless_ended.ensures.same c.loop-position.invariant.gained c.visit_unless_ended.ensures.gained
 
 pub returns-in_err-visit_unless_ended-clause-numbers : goal.returns-in_err-visit_unless_ended-clause-numbers
 returns-in_err-visit_unless_ended-clause-numbers g c =
     let within : c.loop-position.position < length c.loop-position.nodes = search rules in
-    numbers_set (λ n. n.number) c.loop-position.nodes c.loop-position.position c.index-nodes-position.result c.visit_unless_ended.new.node within c.visit_unless_ended.ensures.number ∙ c.loop-position.invariant.numbers
+    same_set (λ n. n.number) c.loop-position.nodes c.loop-position.position c.index-nodes-position.result c.visit_unless_ended.new.node within c.visit_unless_ended.ensures.number ∙ c.loop-position.invariant.numbers
 
 pub returns-in_err-visit_unless_ended-clause-stopped : goal.returns-in_err-visit_unless_ended-clause-stopped
 returns-in_err-visit_unless_ended-clause-stopped g c =
@@ -39,8 +38,8 @@ pub loop-position-preserved : goal.loop-position-preserved
 loop-position-preserved g c =
     let within : c.loop-position.position < length c.loop-position.nodes = search rules in
     record {
-      gained = gained_at _ _ _ _ c.index-nodes-position.result _ _ _ _ _ _ _ within c.loop-position.invariant.gained c.visit_unless_ended.ensures.gained;
-      numbers = numbers_set (λ n. n.number) c.loop-position.nodes c.loop-position.position c.index-nodes-position.result c.visit_unless_ended.new.node within c.visit_unless_ended.ensures.number ∙ c.loop-position.invariant.numbers;
+      gained = gained_at number_in (λ n. n.progress.attempts) _ c.loop-position.nodes c.loop-position.position c.index-nodes-position.result c.visit_unless_ended.new.node _ _ _ _ _ _ within c.visit_unless_ended.ensures.same c.loop-position.invariant.gained c.visit_unless_ended.ensures.gained;
+      numbers = same_set (λ n. n.number) c.loop-position.nodes c.loop-position.position c.index-nodes-position.result c.visit_unless_ended.new.node within c.visit_unless_ended.ensures.number ∙ c.loop-position.invariant.numbers;
       told = λ t.
           let far = c.loop-position.invariant.told t in
           let now : IsToldTo g.B.Board.told (g.B.Board.tells c.loop-position.board) c.loop-position.hand.pass = record { told = t.told; not_ahead = far.goes.not_ahead } in
@@ -56,5 +55,8 @@ returns-clause-round g c = λ t. round_ends progress_in c.loop-position.nodes c.
 
 pub returns-in_err-visit_unless_ended-clause-cut : goal.returns-in_err-visit_unless_ended-clause-cut
 returns-in_err-visit_unless_ended-clause-cut g c = λ t.
+    let within : c.loop-position.position < length c.loop-position.nodes = search rules in
     if_failed c.from_residual.result
-    (round_cut (g.B.Board.tells c.args.board.now) (g.B.Board.tells c.loop-position.board) (g.B.Board.tells c.visit_unless_ended.new.board) _ _ _ _ _ _ (c.loop-position.invariant.told t) (c.in_err-visit_unless_ended.ensures.stays t.told))
+    (round_cut progress_in c.loop-position.nodes c.loop-position.position c.index-nodes-position.result c.visit_unless_ended.new.node
+    (g.B.Board.tells c.args.board.now) (g.B.Board.tells c.loop-position.board) (g.B.Board.tells c.visit_unless_ended.new.board) _ _ _ _ within (c.loop-position.invariant.told t)
+    (c.in_err-visit_unless_ended.ensures.stays t.told) c.in_err-visit_unless_ended.ensures.began c.in_err-visit_unless_ended.ensures.stopped)

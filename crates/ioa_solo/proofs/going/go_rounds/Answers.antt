@@ -2,17 +2,16 @@ use Rattle.std.proofs.Common.{◌+◌, ◌<◌, ◌≤◌, map, refl, sym, ◌�
 use Rattle.ioa_solo.specs.Told.{IsToldTo}
 use Rattle.ioa_solo.specs.Visits.{progress_in}
 use Rattle.ioa_solo.proofs.Gains.{gained_more, gained_none}
-use Rattle.ioa_solo.proofs.Beginnings.{last_cut, rounds_cut}
 use Rattle.ioa_solo.proofs.GoesOn.{goes_further}
 use Rattle.ioa_solo.proofs.Rounds.{if_failed}
-use Rattle.ioa_solo.proofs.ToldRounds.{last_round, rounds_begin, rounds_enough, rounds_go_on}
+use Rattle.ioa_solo.proofs.ToldRounds.{last_cut, last_round, rounds_begin, rounds_cut, rounds_enough, rounds_go_on}
 use Rattle.ioa_solo.proofs.going.go_rounds.Goals as goal
 
 pub loop-round-init : goal.loop-round-init
 loop-round-init g c = record {
-  gained = gained_none _ _ _ _ _ _ (omega arith) refl refl;
+  gained = gained_none _ _ _ _ _ refl refl;
   numbers = refl;
-  told = λ t. rounds_begin _ _ _ _ _ _ (omega arith) t.not_ahead;
+  told = λ t. rounds_begin _ _ _ _ t.not_ahead;
 }
 
 pub returns-in_err-go_round-clause-gained : goal.returns-in_err-go_round-clause-gained
@@ -35,7 +34,7 @@ pub returns-then-have_all_ended-clause-rounds : goal.returns-then-have_all_ended
 returns-then-have_all_ended-clause-rounds g c = λ t.
     let far = c.loop-round.invariant.told t in
     let now : IsToldTo g.B.Board.told (g.B.Board.tells c.loop-round.board) c.loop-round.hand.pass = record { told = t.told; not_ahead = far.goes.not_ahead } in
-    rounds_enough _ _ _ _ _ _ _ _ c.loop-round._round _ _ _ _ (omega (arith, c.loop-round-test.true)) far (c.go_round.ensures.goes now) (c.in_ok-go_round.ensures.round now)
+    rounds_enough _ _ _ _ _ _ _ _ c.loop-round._round (c.args.attempts + 1) _ _ _ (omega (arith, c.loop-round-test.true)) far (c.go_round.ensures.goes now) (c.in_ok-go_round.ensures.round now)
     (sym c.have_all_ended.ensures ∙ c.if-have_all_ended.true)
 
 pub loop-round-preserved : goal.loop-round-preserved
@@ -45,7 +44,7 @@ loop-round-preserved g c = record {
   told = λ t.
       let far = c.loop-round.invariant.told t in
       let now : IsToldTo g.B.Board.told (g.B.Board.tells c.loop-round.board) c.loop-round.hand.pass = record { told = t.told; not_ahead = far.goes.not_ahead } in
-      rounds_go_on _ _ _ _ _ _ _ _ c.loop-round._round _ _ _ _ (omega (arith, c.loop-round-test.true)) far (c.go_round.ensures.goes now) (c.in_ok-go_round.ensures.round now);
+      rounds_go_on _ _ _ _ _ _ _ _ c.loop-round._round (c.args.attempts + 1) _ _ _ (omega (arith, c.loop-round-test.true)) far (c.go_round.ensures.goes now) (c.in_ok-go_round.ensures.round now);
 }
 
 pub returns-clause-gained : goal.returns-clause-gained
@@ -71,11 +70,11 @@ returns-in_err-go_round-clause-cut g c = λ t.
     let far = c.loop-round.invariant.told t in
     let now : IsToldTo g.B.Board.told (g.B.Board.tells c.loop-round.board) c.loop-round.hand.pass = record { told = t.told; not_ahead = far.goes.not_ahead } in
     if_failed c.from_residual.result
-    (rounds_cut _ (g.B.Board.tells c.args.board.now) (g.B.Board.tells c.loop-round.board) _ _ _ c.loop-round._round _ _ _ (omega (arith, c.loop-round-test.true)) far (c.in_err-go_round.ensures.cut now))
+    (rounds_cut (g.B.Board.tells c.args.board.now) (g.B.Board.tells c.loop-round.board) _ _ _ c.loop-round._round (c.args.attempts + 1) _ _ _ _ (omega (arith, c.loop-round-test.true)) far (c.in_err-go_round.ensures.cut now))
 
 pub returns-clause-cut : goal.returns-clause-cut
 returns-clause-cut g c = λ t.
     let far = c.loop-round.invariant.told t in
     let now : IsToldTo g.B.Board.told (g.B.Board.tells c.loop-round.board) c.loop-round.hand.pass = record { told = t.told; not_ahead = far.goes.not_ahead } in
     let within : c.loop-round._round < c.args.attempts + 1 = omega (arith, c.loop-round.auto._round-end) in
-    last_cut c.go_round-2.result _ (g.B.Board.tells c.args.board.now) (g.B.Board.tells c.loop-round.board) _ _ _ c.loop-round._round (c.args.attempts + 1) _ _ within far (c.go_round-2.ensures.cut now)
+    last_cut c.go_round-2.result (g.B.Board.tells c.args.board.now) (g.B.Board.tells c.loop-round.board) _ _ _ c.loop-round._round (c.args.attempts + 1) _ _ _ _ within far (c.go_round-2.ensures.cut now)

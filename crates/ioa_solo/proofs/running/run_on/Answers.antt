@@ -28,7 +28,7 @@ returns-clause-alone g c =
     let up : IsUpTo c.in_ok-solo.solo c.in_ok-hand.hand.pass = rw (c.in_ok-solo.ensures.book, c.in_ok-hand.ensures.pass, c.get.ensures) (first_upto (start (shared_of_value c.args.system.now)) c.steps-steps.result) in
     let left = c.in_ok-record.ensures.left in
     left.commits
-    ∙ ap (λ n. n ∷ []) (counts_all (shared_of_value c.args.system.now) _ _ _ _ c.go_on.new.hand.receipts _ c.in_ok-solo.ensures.book c.in_ok-hand.ensures.receipts (c.go_on.ensures.goes (record { told = refl; not_ahead = up })) _ _ _ (c.in_ok-hand.ensures.share ∙ c.in_ok-solo.ensures.share) c.go_on.ensures.gained ∙ sym (ap length left.schedule))
+    ∙ ap (λ n. n ∷ []) (counts_all (shared_of_value c.args.system.now) _ _ _ _ c.go_on.new.hand.receipts _ c.in_ok-solo.ensures.book c.in_ok-hand.ensures.receipts (c.go_on.ensures.goes (record { told = refl; not_ahead = up })) _ _ _ _ (c.in_ok-hand.ensures.share ∙ c.in_ok-solo.ensures.share) c.go_on.ensures.gained ∙ sym (ap length left.schedule))
 
 pub returns-clause-run : goal.returns-clause-run
 returns-clause-run g c = λ w. is_run_of (shared_of_value c.args.system.now) _ _ _ w (returns-clause-left g c)

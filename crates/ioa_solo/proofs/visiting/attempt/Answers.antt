@@ -1,5 +1,5 @@
 use Rattle.std.proofs.Common.{◌≡◌, ◌⊎◌, sym, subst, refl, Some, false, rules}
-use Rattle.std.specs.Prelude.{OnErr, OnOk, is_some}
+use Rattle.std.specs.Prelude.{IfSome, OnErr, OnOk, is_some}
 use Rattle.ioa_actions.specs.declared.component.Component.TheVariants.{Node}
 use Rattle.ioa_book.specs.Looks.{snapshot_after}
 use Rattle.ioa_commits.specs.Books.{PlainBook, held_of}
@@ -13,6 +13,13 @@ use Rattle.ioa_solo.proofs.Rounds.{if_failed}
 use Rattle.ioa_solo.proofs.SettledNodes.{both_settled, never_settled}
 use Rattle.ioa_solo.proofs.ToldTurns.{unseen_came}
 use Rattle.ioa_solo.proofs.visiting.attempt.Goals as goal
+
+pub attempt_unless_settled-requires-clause-own : goal.attempt_unless_settled-requires-clause-own
+attempt_unless_settled-requires-clause-own g c =
+    let n = (progress_of c.args.node.now).program.node in
+    let as_told = c.in-Ok.ensures.own in
+    let own : IfSome c.look_at.new.look (λ s. s.node ≡ n) = search rules in
+    own
 
 pub returns-in-Ok-clause-goes : goal.returns-in-Ok-clause-goes
 returns-in-Ok-clause-goes g c = λ t.

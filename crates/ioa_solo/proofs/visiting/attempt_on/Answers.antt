@@ -1,11 +1,17 @@
-use Rattle.std.proofs.Common.{refl}
+use Rattle.std.proofs.Common.{refl, ap, arith}
 use Rattle.ioa_book.specs.Looks.{IsLookAt}
+use Rattle.ioa_system.specs.Parts.{Parts}
 use Rattle.ioa_turns.specs.NodeTurns.{arguments_in, end_of, progress_of}
+use Rattle.ioa_solo.proofs.Gains.{gained_at_within}
 use Rattle.ioa_solo.proofs.GoesOn.{goes_nowhere}
 use Rattle.ioa_solo.proofs.Rounds.{if_failed}
 use Rattle.ioa_solo.proofs.SettledNodes.{never_settled}
 use Rattle.ioa_solo.proofs.ToldTurns.{turn_came, turn_failed}
 use Rattle.ioa_solo.proofs.visiting.attempt_on.Goals as goal
+
+pub returns-in-Ok-clause-gained : goal.returns-in-Ok-clause-gained
+returns-in-Ok-clause-gained g c =
+    gained_at_within _ _ 1 0 1 0 _ _ _ _ (omega arith) (ap (λ (p : Parts). p.node) c.turn_on.ensures.same_program) c.after_turn.ensures.gained
 
 pub returns-in-Ok-clause-goes : goal.returns-in-Ok-clause-goes
 returns-in-Ok-clause-goes g c = λ t fresh.

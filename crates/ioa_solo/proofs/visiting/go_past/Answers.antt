@@ -1,4 +1,4 @@
-use Rattle.std.proofs.Common.{refl, sym, ap, subst, ◌∙◌}
+use Rattle.std.proofs.Common.{refl, sym, ap, subst, ◌∙◌, arith}
 use Rattle.std.specs.Prelude.{OnOk}
 use Rattle.ioa_actions.specs.declared.action.Action.{Action}
 use Rattle.ioa_terms.specs.View.{firing_of}
@@ -6,12 +6,24 @@ use Rattle.ioa_turns.specs.NodeTurns.{PlainProgress, arguments_in, kept_in, prog
 use Rattle.ioa_solo.proofs.SettledNodes.{fire_settled}
 use Rattle.ioa_solo.specs.Fires.{IsAfterFire, IsProposedIn, failed_by}
 use Rattle.ioa_solo.specs.Solo.{course_of}
+use Rattle.ioa_solo.proofs.FreshFires.{proposed_node}
+use Rattle.ioa_solo.proofs.Gains.{gained_at_within}
 use Rattle.ioa_solo.proofs.GoesOn.{goes_nowhere}
 use Rattle.ioa_solo.proofs.ToldFires.{failed_comes, on_both, proposed_for, proposed_in}
 use Rattle.ioa_solo.proofs.visiting.go_past.Goals as goal
 
 pub returns-in_err-fired-clause-goes : goal.returns-in_err-fired-clause-goes
 returns-in_err-fired-clause-goes g c = λ t fresh. goes_nowhere _ _ _ _ _ refl refl t.not_ahead
+
+pub commit-requires-clause-own : goal.commit-requires-clause-own
+commit-requires-clause-own g c =
+    proposed_node c.in_ok-fired.fired.action c.args.snapshot.now c.in-Ok.proposal c.in-Ok.ensures
+    ∙ c.requires.own
+    ∙ ap (λ (p : PlainProgress). p.program.node) (sym c.action_fired.ensures.unchanged)
+
+pub returns-in-Ok-clause-gained : goal.returns-in-Ok-clause-gained
+returns-in-Ok-clause-gained g c =
+    gained_at_within _ _ 1 0 1 0 _ _ _ _ (omega arith) (ap (λ (p : PlainProgress). p.program.node) c.action_fired.ensures.unchanged) c.commit.ensures.gained
 
 pub returns-in-Ok-clause-goes : goal.returns-in-Ok-clause-goes
 returns-in-Ok-clause-goes g c = λ t fresh.

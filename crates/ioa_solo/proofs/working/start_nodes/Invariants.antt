@@ -1,4 +1,5 @@
-use Rattle.std.proofs.Common.{◌≡◌, ◌≤◌, ◌*◌, ◌++◌, true, map, drop}
+use Rattle.std.proofs.Common.{◌≡◌, ◌≤◌, ◌*◌, ◌++◌, ℤ, Bool, true, map, take, drop, length}
+use Rattle.std.specs.Prelude.{filter}
 use Rattle.ioa_commits.specs.Books.{states_held}
 use Rattle.ioa_sharing.specs.Named.{shared_of_value}
 use Rattle.ioa_solo.specs.Told.{IsToldTo, IsUpTo}
@@ -10,7 +11,7 @@ use Rattle.ioa_solo.proofs.working.start_nodes.Given as goal
 -- before the others
 abbrev pub invariant-loop-node : goal.invariant-loop-node
 invariant-loop-node g l = record {
-  few : attempts_left l.visited.items ≤ l.attempts * l.node-index;
+  few : (those : ℤ → Bool) → attempts_left l.visited.items those ≤ l.attempts * length (filter those (take l.node-index l.nodes));
   share : l.hand.share ≡ l.initial.hand.share;
   receipts : l.hand.receipts ≡ l.initial.hand.receipts;
   same : g.B.Board.told ≡ true → g.B.Board.tells l.board ≡ g.B.Board.tells l.initial.board;

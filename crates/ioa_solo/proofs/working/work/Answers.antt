@@ -1,10 +1,18 @@
-use Rattle.std.proofs.Common.{◌∙◌, sym, subst, rules}
+use Rattle.std.proofs.Common.{◌∙◌, ap, sym, subst, rules}
 use Rattle.ioa_commits.specs.Books.{PlainBook}
+use Rattle.ioa_receipts.specs.Receipts.{PlainReceipts}
 use Rattle.ioa_sharing.specs.Named.{shared_of_value}
 use Rattle.ioa_solo.specs.Told.{IsToldTo, IsUpTo}
+use Rattle.ioa_solo.specs.Visits.{attempts_left}
+use Rattle.ioa_solo.proofs.Gains.{earned_of}
 use Rattle.ioa_solo.proofs.Termination.{all_written}
 use Rattle.ioa_solo.proofs.Works.{works_alone}
 use Rattle.ioa_solo.proofs.working.work.Goals as goal
+
+pub returns-clause-earned : goal.returns-clause-earned
+returns-clause-earned g c =
+    earned_of attempts_left c.nodes_of-visited.result.items c.deref_mut.result.now c.args.attempts c.args.nodes.now _ _ _ _ _ _ c.go_on.ensures.gained
+    c.nodes_of-visited.ensures.share (ap (λ (r : PlainReceipts). r.all) c.nodes_of-visited.ensures.receipts) (search rules) c.nodes_of-visited.ensures.few
 
 pub returns-clause-solo : goal.returns-clause-solo
 returns-clause-solo g c = λ alone.

@@ -1,0 +1,5 @@
+use Rattle.ioa_solo.proofs.ToldFires.{entry_taken}
+use Rattle.ioa_solo.proofs.firing.attempt_with.Goals as goal
+
+pub returns-clause-entry : goal.returns-clause-entry
+returns-clause-entry g c = entry_taken g.B.Board.opened c.attempt-result.result.0 (λ t. t.receipt.index) (λ t. t.receipt.entry) _ _ _ c.attempt-result.ensures.taken
