@@ -19,3 +19,5 @@ pub mod BlockTurns
 pub mod InboxTerms
 pub mod RunBlocks
 pub mod ReadInvariants
+pub mod ShownLooks
+pub mod DecidedAttempts

@@ -88,9 +88,9 @@ module _ (x : SourceText) (s : SystemParts) (h : IsSystemOf x s) where
     joint : IsJointState cs
     shaped : AreShaped s cs
 
-  record HoldsNode (cs : List Conf) (p : PlainProgress) : Type 0 where
-    present : Contains s.programs p.program
-    block : IsBlockState p.program p.todo p.own
+  pub record HoldsNode (cs : List Conf) (p : PlainProgress) : Type 0 where
+    pub present : Contains s.programs p.program
+    pub block : IsBlockState p.program p.todo p.own
 
   of_some : (p q : Parts) → Some p ≡ Some q → p ≡ q
   of_some p q e = cc
@@ -99,9 +99,9 @@ module _ (x : SourceText) (s : SystemParts) (h : IsSystemOf x s) where
   numbered p c = contained_found int_eq (λ k. (Decides-int_eq k k).1 refl) (λ (q : Parts). q.node) s.programs (declared_once x s h).nodes p c
 
   -- the configuration of a node has values of their sorts for the node's state variables
-  variables_fit : (cs : List Conf) (p : PlainProgress) (c : NodeState) → HoldsStates cs → HoldsNode cs p → find_conf (component.Node p.program.node) cs ≡ Some (Node c) → AllZip FitsVariable p.program.automaton.variables c.variables
+  variables_fit : (cs : List Conf) (p : PlainProgress) (c : NodeState) → AreShaped s cs → HoldsNode cs p → find_conf (component.Node p.program.node) cs ≡ Some (Node c) → AllZip FitsVariable p.program.automaton.variables c.variables
   variables_fit cs p c k n found =
-      let shaped : IsShapedNode s c = found_has (IsShapedConf s) (λ b. same_component (component.Node p.program.node) (component_of b)) cs (Node c) k.shaped found in
+      let shaped : IsShapedNode s c = found_has (IsShapedConf s) (λ b. same_component (component.Node p.program.node) (component_of b)) cs (Node c) k found in
       let name : component.Node c.program.node ≡ component.Node p.program.node = name_found (component.Node p.program.node) cs (Node c) found in
       let number : c.program.node ≡ p.program.node = cc in
       let there : program_numbered p.program.node s.programs ≡ Some c.program = subst (λ (k : ℤ). program_numbered k s.programs ≡ Some c.program) number (numbered c.program shaped.program) in
@@ -124,7 +124,7 @@ module _ (x : SourceText) (s : SystemParts) (h : IsSystemOf x s) where
           subst (λ (q : TurnEnd × PlainProgress). HoldsNode cs q.1) same (at_end r (of_checked (numbers_met_by_turn p.todo turn_limit (block_bindings p.program.automaton p.program.arguments c.variables (inbox_values is) p.own)) (turn p.todo turn_limit (block_bindings p.program.automaton p.program.arguments c.variables (inbox_values is) p.own)) r e))
       by_result (Err f) e g = absurd (cc)
 
-  turn_kept : (cs : List Conf) (p : PlainProgress) (t : TurnEnd × PlainProgress) → HoldsStates cs → HoldsNode cs p → turn_at cs p ≡ Ok t → HoldsNode cs t.1
+  pub turn_kept : (cs : List Conf) (p : PlainProgress) (t : TurnEnd × PlainProgress) → AreShaped s cs → HoldsNode cs p → turn_at cs p ≡ Ok t → HoldsNode cs t.1
   turn_kept cs p t k n e = by_conf (find_conf (component.Node p.program.node) cs) refl e
     where
       by_conf : (o : Option Conf) → find_conf (component.Node p.program.node) cs ≡ o → turn_on p (inboxes_seen p.program cs) o ≡ Ok t → HoldsNode cs t.1
@@ -133,7 +133,7 @@ module _ (x : SourceText) (s : SystemParts) (h : IsSystemOf x s) where
       by_conf (Some (Node c)) found g = by_program (shows_program p.program c) g
         where
           by_program : (b : Bool) → (if b then block_turn p (inboxes_seen p.program cs) c.variables else Err Differs) ≡ Ok t → HoldsNode cs t.1
-          by_program true g = block_turned cs p c (inboxes_seen p.program cs) t (variables_fit cs p c k n found) (seen_fit x s h p.program n.present cs k.shaped) n g
+          by_program true g = block_turned cs p c (inboxes_seen p.program cs) t (variables_fit cs p c k n found) (seen_fit x s h p.program n.present cs k) n g
           by_program false g = absurd (cc)
 
   blocks_are_kept : AreKept HoldsStates HoldsNode
@@ -143,7 +143,7 @@ module _ (x : SourceText) (s : SystemParts) (h : IsSystemOf x s) where
       shaped = joint_shaped x s h entry cs ds k.joint k.shaped (is_joint_step entry cs ds k.joint e).0;
     };
     beside = λ entry cs ds p k e n. record { present = n.present; block = n.block };
-    turn = turn_kept;
+    turn = λ cs p t k n e. turn_kept cs p t k.shaped n e;
     fault = λ cs p f k n e. record { present = n.present; block = n.block };
     past = λ cs p n. record { present = n.present; block = block_passes p.program p.todo p.own n.block };
     used = λ cs p m n. record { present = n.present; block = n.block };

@@ -7,3 +7,5 @@ pub mod Awaited
 pub mod BlockStates
 pub mod Inboxes
 pub mod Invariants
+pub mod UnderWay
+pub mod Attempts

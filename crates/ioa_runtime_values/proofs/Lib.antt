@@ -1,1 +1,2 @@
 pub mod BoundedLists
+pub mod QueueValues

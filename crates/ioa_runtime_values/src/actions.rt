@@ -58,7 +58,7 @@ fn node_action_law(action: &NodeAction)
 }
 
 /// The same of the values of a list.
-fn values_law(values: &[Value])
+pub(crate) fn values_law(values: &[Value])
     ensures { AreRuntimeValues values.now }
 {
     for value in values {

@@ -6,11 +6,13 @@
 //!
 //! **Must not know**: systems, and runs.
 //!
-//! **Laws**: `action_values_law`, `bounded_law`, `entry_values_law`, `schedule_values_law`.
+//! **Laws**: `action_values_law`, `bounded_law`, `entry_values_law`, `schedule_values_law`, `states_values_law`.
 #![tactic(auto)]
 
 mod actions;
+mod states;
 mod values;
 
 pub use actions::{action_values_law, entry_values_law, schedule_values_law};
+pub use states::states_values_law;
 pub use values::bounded_law;

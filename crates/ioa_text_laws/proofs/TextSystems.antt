@@ -7,20 +7,20 @@ use Rattle.ioa_tokens.specs.Written.{IsName}
 use Rattle.ioa_terms.specs.Bindings.{same_word}
 use Rattle.ioa_terms.specs.Sorted.{NameShapes}
 use Rattle.ioa_source.specs.PlainText.{automaton, const, named, type_named}
-use Rattle.ioa_source.specs.Sides.{CheckedDeclared, CheckedParameter, CheckedVariable, SourceAutomaton, SourceDeclaration, SourceDeclared, SourceEntry, SourceNode, SourceParameter, SourceText, SourceTransition}
-use Rattle.ioa_system.specs.InView.{entry_constant}
+use Rattle.ioa_source.specs.Sides.{CheckedDeclared, CheckedParameter, CheckedVariable, SourceAutomaton, SourceDeclaration, SourceDeclared, SourceEntry, SourceNode, SourceParameter, SourceText, SourceTransition, SourceVariable}
+use Rattle.ioa_system.specs.InView.{entry_constant, initial_value}
 use Rattle.ioa_system.specs.Parts.{AutomatonParts, Parts, PlainRule}
 use Rattle.ioa_system.specs.Systems.{SystemParts}
 use Rattle.ioa_sorts.proofs.Lookups.{found_has}
 use Rattle.ioa_types.specs.TextTypes.{PlainTextTypes}
 use Rattle.ioa_text_reader.specs.Texts.{TextSpells}
 use Rattle.ioa_automata.specs.NamesInView.{parameter_shapes}
-use Rattle.ioa_automata.specs.SortedAutomata.{AreParametersOf, IsAutomatonOf, IsDeclaredOf, IsRuleOf, names_at}
+use Rattle.ioa_automata.specs.SortedAutomata.{AreParametersOf, IsAutomatonOf, IsDeclaredOf, IsRuleOf, IsVariableOf, names_at}
 use Rattle.ioa_sections.specs.Sections.{automata_in, nodes_in}
 use Rattle.ioa_sections.specs.Meant.{AreNodesOf}
 use Rattle.ioa_sections.specs.declared.nodes.TheConstants.{MOST_NODES}
 use Rattle.ioa_check.specs.Systems.{IsSystemOf}
-use Rattle.ioa_printed_lines.specs.TextSystems.{AreConstantNames, IsTextProgram, IsTextRule, IsTextShape, IsTextSystem}
+use Rattle.ioa_printed_lines.specs.TextSystems.{AreConstantNames, IsTextParameter, IsTextProgram, IsTextRule, IsTextShape, IsTextSystem, IsTextVariable}
 use Rattle.ioa_text_laws.proofs.DeclaredNames.{AreNamedEntries, IsNamedDeclaration, text_named}
 use Rattle.ioa_text_laws.proofs.TextShapes.{AreTextNames, AreTextual, as_many_words, constant_names, means_text, text_types}
 use Rattle.ioa_text_laws.proofs.TermShapes.{own_text}
@@ -68,6 +68,16 @@ module _ (t : PlainTextTypes) (textual : AreTextual t) where
   arguments_text names all (named u ∷ us) (named c ∷ ps) (s ∷ ss) h =
       (subst (λ (z : PlainShape). IsOfText z) (sym h.0.1) (declared_text u c h.0.0), arguments_text names all us ps ss h.1)
 
+  -- the parameters of an entry
+  parameters_text : (names : NameShapes) → (us : List SourceParameter) (ps : List CheckedParameter) (ss : List PlainShape) → AreParametersOf t.types names us ps ss → AllByRecursion (IsTextParameter (length t.constants)) ps
+  parameters_text names us [] ss h = tt
+  parameters_text names [] (p ∷ ps) ss h = absurd h
+  parameters_text names (u ∷ us) (p ∷ ps) [] h = absurd h
+  parameters_text names (const u ∷ us) (const c ∷ ps) (s ∷ ss) h = (tt, parameters_text names us ps ss h.1)
+  parameters_text names (const u ∷ us) (named c ∷ ps) (s ∷ ss) h = absurd h.0
+  parameters_text names (named u ∷ us) (const c ∷ ps) (s ∷ ss) h = absurd h.0
+  parameters_text names (named u ∷ us) (named c ∷ ps) (s ∷ ss) h = (declared_text u c h.0.0, parameters_text names us ps ss h.1)
+
   -- rules
   rules_text : (ds : List CheckedDeclared) (vs : List CheckedVariable) → AreTextNames (length t.constants) (names_at entry_constant t.constants ds vs []) → (us : List SourceTransition) (es : List SourceEntry) (rs : List PlainRule) →
       AreNamedEntries es → AllZip (IsRuleOf t ds vs us) es rs → AllByRecursion (IsTextRule (length t.constants)) rs
@@ -77,34 +87,50 @@ module _ (t : PlainTextTypes) (textual : AreTextual t) where
   rules_text ds vs all us (e ∷ es) (r ∷ rs) name h = (
     record {
       name = subst IsName (sym h.0.name) name.0;
+      parameters = parameters_text (names_at entry_constant t.constants ds vs []) e.parameters r.entry.parameters r.shapes h.0.parameters;
       shapes = arguments_text (names_at entry_constant t.constants ds vs []) all e.parameters r.entry.parameters r.shapes h.0.parameters;
     },
     rules_text ds vs all us es rs name.1 h.1,
   )
 
-  -- automata
-  abbrev HasTextRules : AutomatonParts → Type 0
-  HasTextRules c = AllByRecursion (IsTextRule (length t.constants)) c.rules
+  -- state variables
+  variables_text : (names : NameShapes) (vs : List SourceVariable) (cs : List CheckedVariable) → AllZip (IsVariableOf t.types names) vs cs → AllByRecursion (IsTextVariable (length t.constants)) cs
+  variables_text names [] [] h = tt
+  variables_text names [] (c ∷ cs) h = absurd h
+  variables_text names (v ∷ vs) [] h = absurd h
+  variables_text names (v ∷ vs) (c ∷ cs) h = (declared_text v.declared c.declared h.0.declared, variables_text names vs cs h.1)
 
-  automata_text : (us : List SourceAutomaton) (cs : List AutomatonParts) → AllByRecursion (λ a. AreNamedEntries a.signature) us → AllZip (IsAutomatonOf t) us cs → AllByRecursion HasTextRules cs
+  -- automata
+  record HasTextParts (c : AutomatonParts) : Type 0 where
+    rules : AllByRecursion (IsTextRule (length t.constants)) c.rules
+    variables : AllByRecursion (IsTextVariable (length t.constants)) c.variables
+
+  automata_text : (us : List SourceAutomaton) (cs : List AutomatonParts) → AllByRecursion (λ a. AreNamedEntries a.signature) us → AllZip (IsAutomatonOf t) us cs → AllByRecursion HasTextParts cs
   automata_text [] [] name h = tt
   automata_text [] (c ∷ cs) name h = absurd h
   automata_text (a ∷ us) [] name h = absurd h
-  automata_text (a ∷ us) (c ∷ cs) name h =
-      (rules_text c.parameters c.variables (names_text a.parameters c.parameters h.0.parameters) a.transitions a.signature c.rules name.0 h.0.rules, automata_text us cs name.1 h.1)
+  automata_text (a ∷ us) (c ∷ cs) name h = (
+    record {
+      rules = rules_text c.parameters c.variables (names_text a.parameters c.parameters h.0.parameters) a.transitions a.signature c.rules name.0 h.0.rules;
+      variables = variables_text (names_at initial_value t.constants c.parameters c.variables []) a.states c.variables h.0.variables;
+    },
+    automata_text us cs name.1 h.1,
+  )
 
   -- programs
-  programs_text : (cs : List AutomatonParts) → AllByRecursion HasTextRules cs → (ns : List SourceNode) (k : ℕ) (ps : List Parts) → k + length ps ≤ MOST_NODES → AreNodesOf t.constants cs ns k ps → AllByRecursion (IsTextProgram (length t.constants)) ps
+  programs_text : (cs : List AutomatonParts) → AllByRecursion HasTextParts cs → (ns : List SourceNode) (k : ℕ) (ps : List Parts) → k + length ps ≤ MOST_NODES → AreNodesOf t.constants cs ns k ps → AllByRecursion (IsTextProgram (length t.constants)) ps
   programs_text cs all ns k [] low h = tt
-  programs_text cs all ns k (p ∷ ps) low h = (
-    record {
-      number_of = k;
-      node = h.0.number;
-      low = low_number k (length ps) low;
-      rules = found_has HasTextRules (λ (c : AutomatonParts). same_word c.name h.0.node.automaton) cs p.automaton all h.0.automaton;
-    },
-    programs_text cs all ns (k + 1) ps (next_low k (length ps) low) h.1,
-  )
+  programs_text cs all ns k (p ∷ ps) low h =
+      let of_text : HasTextParts p.automaton = found_has HasTextParts (λ (c : AutomatonParts). same_word c.name h.0.node.automaton) cs p.automaton all h.0.automaton in (
+        record {
+          number_of = k;
+          node = h.0.number;
+          low = low_number k (length ps) low;
+          rules = of_text.rules;
+          variables = of_text.variables;
+        },
+        programs_text cs all ns (k + 1) ps (next_low k (length ps) low) h.1,
+      )
 
 pub text_system : (p : SourceText) (text : List ℕ) (s : SystemParts) → TextSpells p text → IsSystemOf p s → IsTextSystem s
 text_system p text s spelled h = record {
