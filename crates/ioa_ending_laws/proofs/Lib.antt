@@ -1,0 +1,2 @@
+pub mod MetNodes
+pub mod NumberedFaults

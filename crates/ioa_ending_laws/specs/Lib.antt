@@ -1,0 +1,2 @@
+-- what the contracts of this crate cite
+pub mod FaultNumbers
