@@ -33,6 +33,10 @@ numbered lines = if begins_with_digit lines then before_end lines else []
 abbrev pub behind_first_line : List ℕ → List ℕ
 behind_first_line text = numbered (after_first (λ c. c == 10) text)
 
--- of a report, which begins with `schedule `, the lines behind its first one that begin with a digit; else all lines
+-- a text is a report: it begins with `schedule `
+abbrev pub is_report : List ℕ → Bool
+is_report text = starts_with nat_eq text (codes "schedule ")
+
+-- of a report the lines behind its first one that begin with a digit; else all lines
 abbrev pub schedule_part : List ℕ → List ℕ
-schedule_part text = if starts_with nat_eq text (codes "schedule ") then behind_first_line text else text
+schedule_part text = if is_report text then behind_first_line text else text

@@ -11,7 +11,7 @@ mod input_parts;
 mod output;
 mod schedule_lines;
 
-pub use input::{INPUT_LIMIT, InputFault, read_input};
+pub use input::{INPUT_LIMIT, InputFault, SCHEDULE_LIMIT, read_input, read_within};
 pub use input_parts::parts;
 pub use output::{Out, OutFailed, Over, put_all};
-pub use schedule_lines::schedule_part;
+pub use schedule_lines::{is_report, schedule_part};

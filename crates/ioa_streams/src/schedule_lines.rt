@@ -6,12 +6,19 @@ ghost use Rattle.ioa_streams.specs.ScheduleParts as spec;
 /// How a report begins.
 const REPORT: &[u8] = b"schedule ";
 
-/// The lines of a schedule (profile). Of a report, which begins with `schedule `, they are the lines behind the first
-/// one that begin with a digit, up to the first that does not. Of any other text they are all of it.
+/// Whether a text is a report (profile): it begins with `schedule `.
+pub fn is_report(text: &str) -> bool
+    ensures { result ≡ spec.is_report text.now }
+{
+    text.as_bytes().starts_with(REPORT)
+}
+
+/// The lines of a schedule (profile). Of a report they are the lines behind the first one that begin with a digit, up to
+/// the first that does not. Of any other text they are all of it.
 pub fn schedule_part(text: &str) -> &str
     ensures { result.now ≡ spec.schedule_part text.now }
 {
-    if text.as_bytes().starts_with(REPORT) {
+    if is_report(text) {
         behind_first_line(text)
     } else {
         text
