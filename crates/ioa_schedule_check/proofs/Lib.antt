@@ -1,3 +1,4 @@
 -- the lemmas of this crate
 pub mod Steps
 pub mod Meant
+pub mod Taken

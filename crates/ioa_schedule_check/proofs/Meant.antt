@@ -21,9 +21,9 @@ use Rattle.ioa_schedule_check.specs.Schedules.{IsExecutionSpelled, IsRefusedAs, 
 use Rattle.ioa_schedule_check.specs.Schedules.{schedule_answer, steps_answer, steps_of_lines}
 
 -- a schedule that replays from a state
-record Replays (entries : List PlainEntry) (cs : List Conf) : Type 0 where
-  states : List Conf
-  replayed : replay entries cs ≡ Some states
+pub record Replays (entries : List PlainEntry) (cs : List Conf) : Type 0 where
+  pub states : List Conf
+  pub replayed : replay entries cs ≡ Some states
 
 -- steps without a fault are a replay
 steps_replay : (k : ℕ) (entries : List PlainEntry) (cs : List Conf) → steps_answer k entries cs ≡ Ok tt → Replays entries cs

@@ -12,7 +12,10 @@ use Rattle.ioa_lines.specs.Lines.{Entries, LinesLeft, cut_entry, entries_left, l
 use Rattle.ioa_lines.specs.declared.fault.LineFault.{LineFault}
 use Rattle.ioa_schedule_check.specs.declared.fault.ScheduleFault.{ScheduleFault}
 use Rattle.ioa_schedule_check.specs.declared.fault.ScheduleFault.TheVariants.{Memory}
-use Rattle.ioa_schedule_check.specs.Schedules.{all_read, fault_at, fault_or_line, steps_of_lines}
+use Rattle.ioa_lines.specs.Lines.{Next, TellsEntries}
+use Rattle.ioa_lines.specs.declared.fault.LineFault.TheVariants as line
+use Rattle.ioa_schedule_check.specs.Schedules.{all_read, fault_at, fault_of_line, fault_or_line, steps_of_lines}
+use Rattle.ioa_schedule_check.specs.Taken.{TakesNext, steps_left, taken_at, taken_by, taken_from, taken_left}
 
 -- behind an entry one line more is counted
 counted_from : (s : SystemParts) (k : ℕ) (lines : List (List ℕ)) (x : PlainEntry) (left : LinesLeft)
@@ -60,23 +63,77 @@ after_err : (k : ℕ) (x : PlainEntry) (cs : List Conf) (f : StepFault) (r : Ent
 after_err k x cs f (Ok entries) h = rw h refl
 after_err k x cs f (Err e) h = refl
 
--- so does one whose step may have wanted memory; and a line that spells none is told, whatever the step
-pub step_refused : (s : SystemParts) (old left : LinesLeft) (x : PlainEntry) (cs : List Conf) (w : StepFault)
-    (t : ScheduleFault) → entries_left s old ≡ with_entry x (entries_left s left)
-    → (w ≡ step.Memory) ⊎ (joint_answer x cs ≡ Err w)
-    → (t ≡ Memory) ⊎ (t ≡ fault_or_line (fault_at old.count w) (entries_left s left))
-    → (t ≡ Memory) ⊎ (steps_of_lines old.count cs (entries_left s old) ≡ Err t)
-step_refused s old left x cs w t read why (inl memory) = inl memory
-step_refused s old left x cs w t read (inr is) (inr told) =
-    inr
-    (ap (λ (r : Entries). steps_of_lines old.count cs r) read ∙ after_err old.count x cs w (entries_left s left) is
-    ∙ ap Err (sym told))
-step_refused s old left x cs w t read (inl memory) (inr told) = by_read (entries_left s left) read told
+-- what the next entry of lines takes
+abbrev after_next : SystemParts → List Conf → Next → List PlainEntry
+after_next s cs (Ok (None, left)) = []
+after_next s cs (Ok (Some x, left)) = taken_by x (taken_from s left.lines left.count) (joint_answer x cs)
+after_next s cs (Err f) = []
+
+taken_is : (s : SystemParts) (k : ℕ) (lines : List (List ℕ)) (cs : List Conf)
+    → taken_from s lines k cs ≡ after_next s cs (next_from s k lines)
+taken_is s k [] cs = refl
+taken_is s k (line ∷ lines) cs = by_cut (cut_entry s k (line_tokens line)) (taken_is s k lines cs)
   where
-    by_read : (r : Entries) → entries_left s old ≡ with_entry x r → t ≡ fault_or_line (fault_at old.count w) r
-        → (t ≡ Memory) ⊎ (steps_of_lines old.count cs (entries_left s old) ≡ Err t)
-    by_read (Ok entries) read told = inl (told ∙ ap (fault_at old.count) memory)
-    by_read (Err f) read told = inr (ap (λ (r : Entries). steps_of_lines old.count cs r) read ∙ ap Err (sym told))
+    by_cut : (r : Result (Option PlainEntry) LineFault)
+        → taken_from s lines k cs ≡ after_next s cs (next_from s k lines)
+        → taken_at r k (taken_from s lines) cs
+        ≡ after_next s cs (and_then r (λ o. next_by k lines o (next_from s k lines)))
+    by_cut (Ok None) more = more
+    by_cut (Ok (Some b)) more = refl
+    by_cut (Err f) more = refl
+
+taken_next : (s : SystemParts) (old : LinesLeft) (cs : List Conf) (r : Next) → next_answer s old ≡ r
+    → taken_left s old cs ≡ after_next s cs r
+unfolding next_answer taken_left
+taken_next s old cs r is = taken_is s old.count old.lines cs ∙ ap (after_next s cs) is
+
+-- an entry that is a step is the next one that is taken
+pub takes_step : (s : SystemParts) (old left : LinesLeft) (x : PlainEntry) (cs next : List Conf)
+    → entries_left s old ≡ with_entry x (entries_left s left) → next_answer s old ≡ Ok (Some x, left)
+    → joint_answer x cs ≡ Ok next → TakesNext s old cs (Ok (Some x)) left next
+unfolding steps_left taken_left
+takes_step s old left x cs next read is step = (
+  sym (step_taken s old left x cs next read (counted s old left x is) step),
+  taken_next s old cs (Ok (Some x, left)) is
+      ∙ ap (taken_by x (taken_from s left.lines left.count)) step,
+)
+
+-- behind the last line there is none
+pub takes_none : (s : SystemParts) (old left : LinesLeft) (cs next : List Conf) → entries_left s old ≡ Ok []
+    → next_answer s old ≡ Ok (None, left) → TakesNext s old cs (Ok None) left next
+unfolding steps_left
+takes_none s old left cs next read is = (
+  ap (λ (r : Entries). steps_of_lines old.count cs r) read,
+  taken_next s old cs (Ok (None, left)) is,
+)
+
+-- a line that spells no entry takes none
+pub takes_bad : (s : SystemParts) (old left : LinesLeft) (cs next : List Conf) (e : LineFault) (f : ScheduleFault)
+    → (e ≡ line.Memory) ⊎ (next_answer s old ≡ Err e) → TellsEntries s old (Err e) left → f ≡ fault_of_line e
+    → TakesNext s old cs (Err f) left next
+unfolding steps_left
+takes_bad s old left cs next line.Memory f why read is = inl is
+takes_bad s old left cs next (line.BadLine k) f (inl memory) read is = absurd (cc)
+takes_bad s old left cs next (line.BadLine k) f (inr stops) read is = inr (
+  ap (λ (r : Entries). steps_of_lines old.count cs r) read ∙ ap Err (sym is),
+  taken_next s old cs (Err (line.BadLine k)) stops,
+)
+
+-- nor does an entry that is no step
+pub takes_fault : (s : SystemParts) (old left : LinesLeft) (x : PlainEntry) (cs next : List Conf) (w : StepFault)
+    (t : ScheduleFault) (mid : LinesLeft) → entries_left s old ≡ with_entry x (entries_left s left)
+    → next_answer s old ≡ Ok (Some x, left) → (w ≡ step.Memory) ⊎ (joint_answer x cs ≡ Err w)
+    → (w ≡ step.Memory → t ≡ Memory) → (t ≡ Memory) ⊎ (t ≡ fault_or_line (fault_at old.count w) (entries_left s left))
+    → TakesNext s old cs (Err t) mid next
+unfolding steps_left
+takes_fault s old left x cs next w t mid read is (inl memory) wants told = inl (wants memory)
+takes_fault s old left x cs next w t mid read is (inr step) wants (inl memory) = inl memory
+takes_fault s old left x cs next w t mid read is (inr step) wants (inr told) = inr (
+  ap (λ (r : Entries). steps_of_lines old.count cs r) read ∙ after_err old.count x cs w (entries_left s left) step
+      ∙ ap Err (sym told),
+  taken_next s old cs (Ok (Some x, left)) is
+      ∙ ap (taken_by x (taken_from s left.lines left.count)) step,
+)
 
 -- all lines are read if those behind the next one are
 all_behind : (x : PlainEntry) (r : Entries) → all_read r ≡ all_read (with_entry x r)

@@ -1,7 +1,7 @@
 use Rattle.std.proofs.Common.{◌≡◌, length}
 use Rattle.ioa_lines.specs.Lines.{entries_left}
 use Rattle.ioa_schedule_check.specs.Schedules.{all_read}
-use Rattle.ioa_schedule_check.proofs.checking.read_all.Given as goal
+use Rattle.ioa_schedule_check.proofs.going.read_all.Given as goal
 
 -- all lines are read if those that are left are
 abbrev pub invariant-loop-entry : goal.invariant-loop-entry

@@ -1,0 +1,68 @@
+-- The steps that lines of a schedule take, one after another, as far as they take any (profile).
+use Rattle.std.specs.Prelude.{◌≡◌, ◌⊎◌, ⊤, ℕ, ◌+◌, List, [], ◌∷◌, ◌++◌, Option, Some, None, Result, Ok, Err}
+use Rattle.ioa_actions.specs.declared.fault.StepFault.{StepFault}
+use Rattle.ioa_transitions.specs.Entries.{PlainEntry}
+use Rattle.ioa_system.specs.Systems.{SystemParts}
+use Rattle.ioa_tokens.specs.LineTokens.{line_tokens}
+use Rattle.ioa_compose.specs.declared.configuration.Conf.{Conf}
+use Rattle.ioa_compose.specs.Composition.{joint_answer}
+use Rattle.ioa_compose.specs.Start.{start}
+use Rattle.ioa_lines.specs.Lines.{LinesLeft, cut_entry, entries_left, lines_left, lines_of}
+use Rattle.ioa_lines.specs.declared.fault.LineFault.{LineFault}
+use Rattle.ioa_schedule_check.specs.declared.fault.ScheduleFault.{ScheduleFault}
+use Rattle.ioa_schedule_check.specs.declared.fault.ScheduleFault.TheVariants.{Memory}
+use Rattle.ioa_schedule_check.specs.Schedules.{IsExecutionSpelled, steps_of_lines}
+
+-- an entry and those behind it, if its joint step leads to a state; nothing if it is no step
+abbrev pub taken_by : PlainEntry → (List Conf → List PlainEntry) → Result (List Conf) StepFault → List PlainEntry
+taken_by e later (Ok next) = e ∷ later next
+taken_by e later (Err f) = []
+
+-- what a line takes that spells this, behind k others that have tokens, and then the lines behind it
+abbrev pub taken_at : Result (Option PlainEntry) LineFault → ℕ → (ℕ → List Conf → List PlainEntry) → List Conf
+    → List PlainEntry
+taken_at (Ok None) k later cs = later k cs
+taken_at (Ok (Some e)) k later cs = taken_by e (later (k + 1)) (joint_answer e cs)
+taken_at (Err f) k later cs = []
+
+-- the entries that lines take as steps one after another, behind k others that have tokens, up to the first line that
+-- spells none, and the first entry that is no step
+abbrev pub taken_from : SystemParts → List (List ℕ) → ℕ → List Conf → List PlainEntry
+taken_from s [] k cs = []
+taken_from s (line ∷ lines) k cs = taken_at (cut_entry s k (line_tokens line)) k (taken_from s lines) cs
+
+-- those of the lines that are left
+unfoldable pub taken_left : SystemParts → LinesLeft → List Conf → List PlainEntry
+taken_left s left cs = taken_from s left.lines left.count cs
+
+-- those of the lines of a text, from the start of a system
+unfoldable pub taken_of : SystemParts → List ℕ → List PlainEntry
+taken_of s text = taken_left s (lines_left 0 (lines_of text)) (start s)
+
+-- what is answered of the lines that are left
+unfoldable pub steps_left : SystemParts → LinesLeft → List Conf → Result (Unit {0}) ScheduleFault
+steps_left s left cs = steps_of_lines left.count cs (entries_left s left)
+
+-- what the next step of lines tells of what is answered of them, and of what they take: it is taken, and the others
+-- behind it; or no line is left; or why there is no next step
+abbrev pub TakesNext : SystemParts → LinesLeft → List Conf → Result (Option PlainEntry) ScheduleFault → LinesLeft
+    → List Conf → Type 0
+TakesNext s old cs (Ok (Some e)) new next =
+    (steps_left s old cs ≡ steps_left s new next) × (taken_left s old cs ≡ e ∷ taken_left s new next)
+TakesNext s old cs (Ok None) new next = (steps_left s old cs ≡ Ok tt) × (taken_left s old cs ≡ [])
+TakesNext s old cs (Err f) new next = (f ≡ Memory) ⊎ ((steps_left s old cs ≡ Err f) × (taken_left s old cs ≡ []))
+
+-- a list has these behind it too, unless memory ran out
+abbrev pub TakesAll : Result (Unit {0}) ScheduleFault → (old new more : List PlainEntry) → Type 0
+TakesAll (Ok x) old new more = new ≡ old ++ more
+TakesAll (Err f) old new more = (f ≡ Memory) ⊎ (new ≡ old ++ more)
+
+-- an answer, by the refusal that it has or has not
+abbrev pub answer_by : Option ScheduleFault → Result (Unit {0}) ScheduleFault
+answer_by None = Ok tt
+answer_by (Some f) = Err f
+
+-- if the lines of a text are not refused, they are an execution, and its entries are these
+abbrev pub IsWholeIf : Option ScheduleFault → SystemParts → List ℕ → List PlainEntry → Type 0
+IsWholeIf None s text entries = (execution : IsExecutionSpelled s text) × (execution.entries ≡ entries)
+IsWholeIf (Some f) s text entries = ⊤

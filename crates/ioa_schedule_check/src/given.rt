@@ -1,0 +1,103 @@
+//! What there is of a schedule that is given as lines.
+
+ghost use Rattle.std.specs.Prelude.{◌≡◌, ◌∷◌, ◌++◌, [], IfOk, OnOk};
+ghost use Rattle.ioa_values.specs.Outcome.{Answers};
+ghost use Rattle.ioa_schedule_check.specs.Schedules.{schedule_answer};
+ghost use Rattle.ioa_schedule_check.specs.Taken.{IsWholeIf, TakesAll, answer_by, steps_left, taken_left, taken_of};
+
+use crate::fault::ScheduleFault;
+use crate::going::go_on;
+use ioa_course::Course;
+use ioa_lines::ScheduleLines;
+use ioa_rawlog::{RawLog, Spare};
+use ioa_system::System;
+use ioa_transitions::Entry;
+use std::alloc::{AllocError, Global};
+
+/// What there is of a schedule that is given as lines: the steps that it takes, and why the lines are no execution.
+#[derive(Drop)]
+pub struct GivenSchedule {
+    /// The entries that are steps one after another from the start, up to the first line that spells none, and the
+    /// first entry that is no step.
+    pub taken: RawLog<Entry>,
+    /// Why the lines are no execution; nothing if they are one.
+    pub refusal: Option<ScheduleFault>,
+}
+
+/// The steps that the lines of a text take from the start of a system, and the refusal of the lines, which is that of
+/// `check_schedule`. If they are an execution, the steps are all that the lines spell. What it takes of memory grows
+/// with the steps.
+pub fn given_schedule(
+    alloc: Global,
+    system: &System,
+    text: &str,
+) -> Result<GivenSchedule, AllocError>
+    ensures taken { IfOk result (λ g. g.taken ≡ taken_of system.now text.now) }
+    ensures answer { IfOk result (λ g. answer_by g.refusal ≡ schedule_answer system.now text.now) }
+    ensures whole { IfOk result (λ g. IsWholeIf g.refusal system.now text.now g.taken) }
+{
+    gather(alloc, system, text)
+}
+
+/// The same, by the order in which lines are read and steps are taken.
+#[tactic(auto, unfolding(crate::specs::schedule_answer, crate::specs::steps_left, crate::specs::taken_of))]
+fn gather(alloc: Global, system: &System, text: &str) -> Result<GivenSchedule, AllocError>
+    ensures taken { IfOk result (λ g. g.taken ≡ taken_of system.now text.now) }
+    ensures answer { IfOk result (λ g. answer_by g.refusal ≡ schedule_answer system.now text.now) }
+{
+    let mut course = Course::start(alloc, system)?;
+    let mut lines = ScheduleLines::new(alloc, text);
+    let mut taken = RawLog::new();
+    match take_all(alloc, system, &mut course, &mut lines, &mut taken) {
+        Ok(()) => Ok(GivenSchedule {
+            taken,
+            refusal: None,
+        }),
+        Err(ScheduleFault::Memory) => Err(AllocError),
+        Err(fault) => Ok(GivenSchedule {
+            taken,
+            refusal: Some(fault),
+        }),
+    }
+}
+
+/// Takes the steps by the entries that the lines that are left spell, and puts each behind those taken before.
+fn take_all(
+    alloc: Global,
+    system: &System,
+    course: &mut Course,
+    lines: &mut ScheduleLines<'_>,
+    taken: &mut RawLog<Entry>,
+) -> Result<(), ScheduleFault>
+    ensures answer { Answers ScheduleFault.Memory (λ u. u) result (steps_left system.now lines.old course.old) }
+    ensures taken { TakesAll result taken.old taken.new (taken_left system.now lines.old course.old) }
+{
+    while let Some(entry) = go_on(alloc, system, course, lines)? {
+        put(alloc, taken, entry)?;
+    }
+    Ok(())
+}
+
+/// Puts an entry behind the others of a log.
+fn put(alloc: Global, log: &mut RawLog<Entry>, entry: Entry) -> Result<(), AllocError>
+    ensures { OnOk result (log.new ≡ log.old ++ entry ∷ []) }
+{
+    // no log is so long
+    if log.len() == usize::MAX {
+        return Err(AllocError);
+    }
+    let spare = spare_for(alloc, log)?;
+    match log.push(entry, spare) {
+        Ok(_left) => Ok(()),
+        Err(_refused) => Err(AllocError),
+    }
+}
+
+/// A spare, if the next entry needs one.
+fn spare_for(alloc: Global, log: &RawLog<Entry>) -> Result<Option<Spare<Entry>>, AllocError> {
+    if log.needs_spare() {
+        Ok(Some(Spare::make(alloc)?))
+    } else {
+        Ok(None)
+    }
+}
