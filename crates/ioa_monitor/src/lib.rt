@@ -1,5 +1,5 @@
 //! The report of a run, put out piece by piece: no text of the whole run, and none of a line, is kept. Beside it the
-//! trace of a run, and what ioa_verdicts and ioa_schedule_check have.
+//! trace of a run, the verdicts along a schedule, and what ioa_verdicts and ioa_schedule_check have.
 //!
 //! **A crate of its own**, since reports stand on runs alone, and neither on texts nor on how a system was checked.
 //!
@@ -10,6 +10,7 @@ mod commits;
 mod endings;
 mod findings;
 mod invariants;
+mod judging;
 mod nodes;
 mod queues;
 mod reporting;
@@ -21,5 +22,6 @@ pub use findings::Findings;
 pub use ioa_paper::ReportFault;
 pub use ioa_schedule_check::{ScheduleFault, check_schedule, schedule_law};
 pub use ioa_verdicts::{Verdict, verdict_law, verdicts};
+pub use judging::judge;
 pub use reporting::report;
 pub use traces::trace;

@@ -51,7 +51,7 @@ fn put_contents<O: Out>(paper: &mut Paper<'_, O>, names: &Names, queue: &Queue)
 fn put_items<O: Out>(paper: &mut Paper<'_, O>, names: &Names, queue: &Queue)
     ensures { paper.new ≡ and_text paper.old (with_commas (map (item_text names.now) queue.now.items)) }
 {
-    let (stimuli, messages) = queue.parts();
+    let (stimuli, messages) = queue.items();
     for (position, stimulus) in stimuli.iter().enumerate() {
         put_separator(paper, position);
         put_node_action(paper, names, stimulus);

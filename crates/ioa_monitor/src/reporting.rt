@@ -39,7 +39,7 @@ pub fn report<O: Out>(
         (O.bytes out.old) (O.bytes out.new) (O.failed out.new) result }
     ensures found { IfOk result (λ f. f ≡ findings_of endings.now (verdicts_of system.now run_record.now.schedule)) }
 {
-    let verdicts = verdicts(alloc, system, run_record)?;
+    let verdicts = verdicts(alloc, system, &run_record.schedule)?;
     let room = room(alloc)?;
     let mut paper = Paper::new(out, room);
     put_report(&mut paper, system, run_record, endings, &verdicts);

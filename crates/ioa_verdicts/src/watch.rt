@@ -15,28 +15,27 @@ use ioa_actions::{Action, Component, StepFault};
 use ioa_compose::{Conf, Parties, participants};
 use ioa_course::Course;
 use ioa_rawlog::RawLog;
-use ioa_record::Record;
 use ioa_system::{CheckedInvariant, System};
 use ioa_transitions::Entry;
 use std::alloc::{AllocError, Global};
 
-/// The verdicts on the invariants of a system along the schedule of a run, in the order of their declaration (profile).
+/// The verdicts on the invariants of a system along a schedule, in the order of their declaration (profile).
 /// An invariant is evaluated at the start, and behind each entry of whose participants it reads, as long as it holds.
 /// So an entry costs its step, and the terms of these. Nothing is asked of the schedule: behind an entry that is no
 /// step there is no state.
 pub fn verdicts(
     alloc: Global,
     system: &System,
-    run_record: &Record,
+    schedule: &RawLog<Entry>,
 ) -> Result<Vec<Verdict>, AllocError>
-    ensures { IfOk result (λ v. v.items ≡ verdicts_of system.now run_record.now.schedule) }
+    ensures { IfOk result (λ v. v.items ≡ verdicts_of system.now schedule.now) }
 {
     let invariants = system.invariants();
     if invariants.is_empty() {
         return Ok(Vec::new(alloc));
     }
     let mut course = Course::start(alloc, system)?;
-    let findings = findings_along(alloc, invariants, &mut course, &run_record.schedule)?;
+    let findings = findings_along(alloc, invariants, &mut course, schedule)?;
     Ok(findings.into_verdicts())
 }
 
