@@ -25,7 +25,7 @@ use Rattle.ioa_schedules.specs.declared.turn.Turn.{Turn}
 use Rattle.ioa_turns.specs.NodeTurns.{PlainProgress, end_of, past_fire, turn_at, with_ending}
 use Rattle.ioa_tell.specs.Attempts.{IsAfterFault, misses, fails, IsAfterFire, takes, refused, over}
 use Rattle.ioa_tell.specs.Attempts.{IsAttempt, fires_one, waits, comes_to_end, is_stuck, turn_after, with_one_less}
-use Rattle.ioa_tell.specs.Attempts.{IsTried, is_spent, attempts, IsVisit, had_ended, tries, stops}
+use Rattle.ioa_tell.specs.Attempts.{IsTried, is_spent, attempts, IsVisit, had_ended, tries, stops, stops_without}
 use Rattle.ioa_tell.specs.Events.{PlainEvent, stopped}
 use Rattle.ioa_tell.specs.Marks as mark
 use Rattle.ioa_tell.specs.Marks.{Mark}
@@ -52,7 +52,14 @@ no_stop p e = sym (ap (λ (o : Option Ending). if is_some o then mark.stopped p.
 one_stop : (p : PlainProgress) (e : Ending) → p.ending ≡ Some e → mark.stopped p.program.node ∷ [] ≡ stops p
 one_stop p e is = sym (ap (λ (o : Option Ending). if is_some o then mark.stopped p.program.node ∷ [] else []) is)
 
+-- the same of one that has none once memory ran out
+one_stop_without : (p : PlainProgress) → p.ending ≡ None → mark.stopped p.program.node ∷ [] ≡ stops_without p
+one_stop_without p e = sym (ap (λ (o : Option Ending). if is_some o then [] else mark.stopped p.program.node ∷ []) e)
+
 module _ {S : Type 0} (hears : PlainEvent → S → S → Type 0) where
+  pub tells_stop_without : (b : PlainBook) (k : ℕ) (n : ℤ) (p : PlainProgress) (x y : S) → p.ending ≡ None → k ≡ length b.log → hears (stopped k n) x y → p.program.node ≡ n → TellsOn hears b b [] [] x y (stops_without p)
+  tells_stop_without b k n p x y is count h same = subst (λ (did : List Mark). TellsOn hears b b [] [] x y did) (one_stop_without p is) (tells_stopped hears b k n x y count h p.program.node same)
+
   pub tells_no_stop : (b : PlainBook) (p : PlainProgress) (x : S) → p.ending ≡ None → TellsOn hears b b [] [] x x (stops p)
   tells_no_stop b p x is = subst (λ (did : List Mark). TellsOn hears b b [] [] x x did) (no_stop p is) (tells_nothing hears b [] x)
 
@@ -83,13 +90,13 @@ module _ {S : Type 0} (hears : PlainEvent → S → S → Type 0) where
     is = takes e (sym same) past refl;
   }
 
-  -- no entry is left
-  pub fire_over : (b : PlainBook) (l m : List PlainEntry) (x : S) (look : PlainSnapshot) (p q : PlainProgress) (c : PlainProposal) (g : NodeFault) → proposal_answer c.entry.action look ≡ Ok c →
-      l ≡ [] → m ≡ [] → (g ≡ fault.Full) ⊎ (g ≡ fault.Memory) → q ≡ with_ending (Fault g) p → TellsSuch hears b b l m x x (IsAfterFire look (b.log ++ l) b.log p q c.entry.action)
-  fire_over b l m x look p q c g proposed none still why ended = record {
+  -- no entry is left, and the schedule was full
+  pub fire_over : (b : PlainBook) (l m : List PlainEntry) (x : S) (look : PlainSnapshot) (p q : PlainProgress) (c : PlainProposal) → proposal_answer c.entry.action look ≡ Ok c →
+      l ≡ [] → m ≡ [] → q ≡ with_ending (Fault fault.Full) p → TellsSuch hears b b l m x x (IsAfterFire look (b.log ++ l) b.log p q c.entry.action)
+  fire_over b l m x look p q c proposed none still ended = record {
     did = [];
     tells = tells_none hears b l m x (still ∙ sym none);
-    is = over c g proposed (sym (append-nil b.log) ∙ ap (λ (r : List PlainEntry). b.log ++ r) (sym none)) why ended refl;
+    is = over c proposed (sym (append-nil b.log) ∙ ap (λ (r : List PlainEntry). b.log ++ r) (sym none)) ended refl;
   }
 
   -- an action has no step

@@ -1,5 +1,5 @@
 -- What an attempt of a node comes to, and what is told of it (profile).
-use Rattle.std.specs.Prelude.{◌≡◌, ◌⊎◌, ℕ, ◌-◌, true, if◌then◌else◌, List, [], ◌∷◌, ◌++◌}
+use Rattle.std.specs.Prelude.{◌≡◌, ℕ, ◌-◌, true, if◌then◌else◌, List, [], ◌∷◌, ◌++◌}
 use Rattle.std.specs.Prelude.{Option, Some, None, is_some, Result, Ok, Err}
 use Rattle.ioa_values.specs.Data.{Data}
 use Rattle.ioa_actions.specs.declared.action.Action.{Action}
@@ -13,7 +13,7 @@ use Rattle.ioa_book.specs.Looks.{PlainSnapshot, snapshot_after}
 use Rattle.ioa_book.specs.Proposals.{proposal_answer}
 use Rattle.ioa_record.specs.declared.ending.Ending.TheVariants.{Done, Spent, Fault}
 use Rattle.ioa_record.specs.declared.ending.NodeFault.{NodeFault}
-use Rattle.ioa_record.specs.declared.ending.NodeFault.TheVariants.{Full, Memory}
+use Rattle.ioa_record.specs.declared.ending.NodeFault.TheVariants.{Full}
 use Rattle.ioa_schedules.specs.Turns.{TurnEnd, fires, idle, done}
 use Rattle.ioa_turns.specs.Faults.{fault_of_step}
 use Rattle.ioa_turns.specs.Fired.{action_fired}
@@ -29,14 +29,14 @@ pub data IsAfterFault (look : PlainSnapshot) (p q : PlainProgress) (a : Action) 
       q ≡ with_ending (Fault g) p → did ≡ [] → IsAfterFault look p q a did
 
 -- a node that fires an action after these entries of a schedule: it is taken, and the block moves past it; it has no
--- step; or the whole schedule was taken, and the node ends, for it is full or memory ran out
+-- step; or the whole schedule was taken, and the node ends, for it is full
 pub data IsAfterFire (look : PlainSnapshot) (schedule log : List PlainEntry) (p q : PlainProgress) (a : Action)
     (did : List Mark) : Type 0 where
   takes : (e : PlainEntry) → e.action ≡ a → q ≡ past_fire p → did ≡ mark.took e ∷ [] →
       IsAfterFire look schedule log p q a did
   refused : IsAfterFault look p q a did → IsAfterFire look schedule log p q a did
-  over : (x : PlainProposal) (g : NodeFault) → proposal_answer a look ≡ Ok x → log ≡ schedule →
-      (g ≡ Full) ⊎ (g ≡ Memory) → q ≡ with_ending (Fault g) p → did ≡ [] → IsAfterFire look schedule log p q a did
+  over : (x : PlainProposal) → proposal_answer a look ≡ Ok x → log ≡ schedule → q ≡ with_ending (Fault Full) p →
+      did ≡ [] → IsAfterFire look schedule log p q a did
 
 -- the turn of a node, on what a look at it reads after these entries
 abbrev pub turn_after : List Conf → List PlainEntry → PlainProgress → Result (TurnEnd × PlainProgress) NodeFault
@@ -70,6 +70,10 @@ pub data IsTried (start : List Conf) (schedule log : List PlainEntry) (p q : Pla
 -- what is told of a node that has an ending: that it stopped
 abbrev pub stops : PlainProgress → List Mark
 stops p = if is_some p.ending then mark.stopped p.program.node ∷ [] else []
+
+-- what is told of a node that has no ending once memory ran out: that it stopped
+abbrev pub stops_without : PlainProgress → List Mark
+stops_without p = if is_some p.ending then [] else mark.stopped p.program.node ∷ []
 
 -- a visit of a node: nothing is told of one that had an ending before, and of any other what it tried, and then that it
 -- stopped, if it did

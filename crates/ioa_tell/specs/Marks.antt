@@ -1,5 +1,5 @@
 -- What the events of a run say of the attempts of its nodes (form).
-use Rattle.std.specs.Prelude.{ℕ, ℤ, List, [], ◌∷◌}
+use Rattle.std.specs.Prelude.{ℤ, List, [], ◌∷◌}
 use Rattle.ioa_actions.specs.declared.action.Action.{Action}
 use Rattle.ioa_transitions.specs.Entries.{PlainEntry}
 use Rattle.ioa_tell.specs.Events as told

@@ -12,7 +12,7 @@ use Rattle.ioa_compose.specs.declared.configuration.Conf.{Conf}
 use Rattle.ioa_record.specs.declared.ending.Ending.{Ending}
 use Rattle.ioa_system.specs.Systems.{SystemParts}
 use Rattle.ioa_transitions.specs.Entries.{PlainEntry}
-use Rattle.ioa_turns.specs.NodeTurns.{PlainProgress, progress_at}
+use Rattle.ioa_turns.specs.NodeTurns.{progress_at}
 use Rattle.ioa_reasons.specs.Faulted.{IsFaulted}
 use Rattle.ioa_reasons.specs.PlainReasons.{PlainReason}
 use Rattle.ioa_reasons.specs.Reasons.{IsReason, queue_among}
@@ -21,7 +21,7 @@ use Rattle.ioa_reasons.specs.Tests.{IsNodeReason}
 use Rattle.ioa_reasons.specs.Unfit.{IsUnfit}
 use Rattle.ioa_tell.specs.Events.{PlainEvent, taken, missed, faulted, unfit, stuck, idle, stopped, ended}
 use Rattle.ioa_tell.specs.Marks.{Mark, marks_of}
-use Rattle.ioa_tell.specs.Visits.{AreEndedAs, AreVisited}
+use Rattle.ioa_tell.specs.Visits.{AreVisited, PlainRound, cut_off, ended_as}
 
 -- an action that is taken in these configurations and leads to those (Lynch 8.2): it is told of its node how it was
 -- before and how it is after, and of its queue how it is after
@@ -88,14 +88,20 @@ abbrev pub endings_told : ℕ → List Ending → List PlainEvent
 endings_told i [] = []
 endings_told i (e ∷ more) = ended i e ∷ endings_told (i + 1) more
 
+-- the nodes of a system before a run, each with so many attempts: it is the first one's turn
+abbrev pub first_round : ℕ → SystemParts → PlainRound
+first_round attempts s = record { turn = 0; nodes = map (progress_at attempts) s.programs }
+
 -- a run of a system that is told, with so many attempts for each node: what goes along its schedule from the start, and
--- then the endings; of the visits of the nodes, which go on until each node has ended as is recorded, all is told, so
--- that no attempt is left out
+-- then the endings; of the visits of the nodes, round by round, all is told until each node has ended as is recorded,
+-- so that no attempt is left out; but nothing of those that the run may not have made since memory ran out
 pub record TellsRun {S : Type 0} (hears : PlainEvent → S → S → Type 0) (s : SystemParts) (attempts : ℕ)
     (schedule : List PlainEntry) (endings : List Ending) (had has : S) : Type 0 where
   pub events : List PlainEvent
   pub told : AreTold (start s) [] events schedule
   pub heard : AreHeard hears (events ++ endings_told 0 endings) had has
-  pub last : List PlainProgress
-  pub visited : AreVisited (start s) schedule [] (map (progress_at attempts) s.programs) last (marks_of events)
-  pub ended : AreEndedAs last endings
+  pub last : PlainRound
+  pub did : List Mark
+  pub visited : AreVisited (start s) schedule endings [] (first_round attempts s) last did
+  pub ended : map ended_as last.nodes ≡ endings
+  pub marked : marks_of events ≡ did ++ cut_off last.nodes

@@ -2,10 +2,18 @@
 
 use crate::fault::TellFault;
 use ioa_book::{Book, Snapshot};
+use ioa_record::Ending;
 use ioa_sharing::Origin;
 use ioa_system::Program;
 use ioa_turns::Progress;
 use std::alloc::Global;
+
+/// What is recorded of how a run ended: after how many actions, and how each node ended.
+#[derive(Clone, Copy)]
+pub(crate) struct Recorded<'a> {
+    pub(crate) length: usize,
+    pub(crate) endings: &'a [Ending],
+}
 
 /// A node: how far it has come, and the last look at it.
 #[derive(Drop)]

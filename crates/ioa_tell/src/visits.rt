@@ -264,8 +264,8 @@ fn go_past<O: Origin, T: Tells>(
     }
 }
 
-/// Takes the next entry of the record, which is to be that of the proposal. If none is left, the run ended here: its
-/// schedule was full, or memory ran out.
+/// Takes the next entry of the record, which is to be that of the proposal. If none is left, the node ends, since the
+/// schedule was full.
 fn fire<O: Origin, T: Tells>(
     alloc: Global,
     book: &mut Book<O>,
@@ -289,22 +289,20 @@ fn fire<O: Origin, T: Tells>(
             node.pass();
             Ok(())
         }
-        None => {
-            node.ending = Some(Ending::Fault(last_fault(book)));
-            Ok(())
-        }
+        None => end_full(book, node),
     }
 }
 
-/// The fault with which a node ends that fires an action behind the last entry.
-fn last_fault<O: Origin>(book: &Book<O>) -> NodeFault
-    ensures { (result ≡ NodeFault.Full) ⊎ (result ≡ NodeFault.Memory) }
+/// Ends a node that fires an action behind the last entry, if the book is full. If it is not, the run would have taken
+/// the action.
+fn end_full<O: Origin>(book: &Book<O>, node: &mut Progress) -> Result<(), TellFault>
+    ensures { OnOk result (progress_of node.new ≡ with_ending (Ending.Fault NodeFault.Full) (progress_of node.old)) }
 {
     if book.log().len() < book.limit() {
-        NodeFault::Memory
-    } else {
-        NodeFault::Full
+        return Err(TellFault::Differs);
     }
+    node.ending = Some(Ending::Fault(NodeFault::Full));
+    Ok(())
 }
 
 /// What follows from a step that an action has not: one that is not enabled is missed, and any other fault ends the

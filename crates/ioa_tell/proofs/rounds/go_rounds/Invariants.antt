@@ -4,8 +4,8 @@ use Rattle.ioa_tell.specs.Told.{TellsSuch}
 use Rattle.ioa_tell.specs.Visits.{AreVisited}
 use Rattle.ioa_tell.proofs.rounds.go_rounds.Given as goal
 
--- what was told so far goes along the schedule, and is that of visits
+-- what was told so far goes along the schedule, and is that of whole rounds
 abbrev pub invariant-loop-round : goal.invariant-loop-round
 invariant-loop-round g l =
     TellsSuch g.T.Tells.hears l.initial.book l.book l.initial.left l.left l.initial.out l.out
-    (AreVisited l.initial.book.start (l.initial.book.log ++ l.initial.left) l.initial.book.log (map progress_in l.initial.nodes) (map progress_in l.nodes))
+    (AreVisited l.initial.book.start (l.initial.book.log ++ l.initial.left) l.recorded.endings.now l.initial.book.log (record { turn = 0; nodes = map progress_in l.initial.nodes }) (record { turn = 0; nodes = map progress_in l.nodes }))

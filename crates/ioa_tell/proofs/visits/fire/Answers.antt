@@ -1,7 +1,8 @@
-use Rattle.std.proofs.Common.{ap, refl}
+use Rattle.std.proofs.Common.{ap}
 use Rattle.ioa_transitions.specs.Entries.{PlainEntry}
 use Rattle.ioa_turns.specs.NodeTurns.{progress_of}
 use Rattle.ioa_tell.proofs.Attempted.{fire_over, fire_taken}
+use Rattle.ioa_tell.proofs.Tellings.{on_map}
 use Rattle.ioa_tell.proofs.visits.fire.Goals as goal
 
 pub returns-in_ok-take-in-Some : goal.returns-in_ok-take-in-Some
@@ -11,5 +12,6 @@ returns-in_ok-take-in-Some g c =
 
 pub returns-in-None : goal.returns-in-None
 returns-in-None g c =
-    fire_over g.T.Tells.hears c.args.book.now _ _ _ c.args.look.now (progress_of c.args.node.now) _ c.args.proposal c.last_fault.result c.requires.proposed
-    c.in-None.ensures.steps.0 c.in-None.ensures.steps.1 c.last_fault.ensures refl
+    on_map c.end_full.result
+    (λ ended. fire_over g.T.Tells.hears c.args.book.now _ _ _ c.args.look.now (progress_of c.args.node.now) _ c.args.proposal c.requires.proposed
+    c.in-None.ensures.steps.0 c.in-None.ensures.steps.1 ended) c.end_full.ensures
