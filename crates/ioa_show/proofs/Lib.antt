@@ -1,4 +1,5 @@
 -- the lemmas of this crate
+pub mod Beginnings
 pub mod Channels
 pub mod Going
 pub mod Jsons

@@ -1,7 +1,7 @@
 -- Where things stand in a space-time diagram (form), in pixels. Whatever would be above the greatest number that the
 -- code has is that number.
 use Rattle.std.specs.Prelude.{ℕ, ℤ, pos, negsuc, ◌+◌, ◌-◌, ◌*◌, ◌/◌, ◌^◌, min, max, nat_lt, if◌then◌else◌}
-use Rattle.std.specs.Prelude.{List, [], ◌∷◌, length}
+use Rattle.std.specs.Prelude.{Bool, true, false, List, [], ◌∷◌, length}
 use Rattle.ioa_system.specs.Invariants.{InvariantParts}
 use Rattle.ioa_system.specs.Parts.{Parts}
 use Rattle.ioa_system.specs.Systems.{SystemParts}
@@ -9,6 +9,7 @@ use Rattle.ioa_show.specs.declared.frame.Frame.{Frame}
 use Rattle.ioa_show.specs.declared.frame.Point.{Point}
 use Rattle.ioa_show.specs.declared.frame.TheConstants.{AROUND_AUTOMATON, AROUND_INVARIANT, CLOSE_STEP, LABEL_END}
 use Rattle.ioa_show.specs.declared.frame.TheConstants.{LETTER, LINE, ROOM, ROW, START, TOP, WIDE_LIMIT, WIDE_STEP}
+use Rattle.ioa_show.specs.declared.memory.TheConstants.{RAN_OUT}
 
 -- the number, or the greatest one
 abbrev pub capped : ℕ → ℕ
@@ -61,17 +62,29 @@ widest (v ∷ vs) = max (letters (length v.name) AROUND_INVARIANT) (widest vs)
 abbrev pub margin_of : List Parts → ℕ
 margin_of ps = letters (longest ps) AROUND_AUTOMATON - LABEL_END
 
--- where the diagram ends on the right, if its actions take so many pixels
+-- where the diagram ends on the right, if its actions and its last line take so many pixels
 abbrev pub right_of : List InvariantParts → ℕ → ℕ
 right_of vs n = capped (max n (widest vs) + (START + ROOM))
 
--- the measures for the runs of a system with so many actions, and so many lines on invariants
-abbrev pub frame_of : SystemParts → ℕ → ℕ → Frame
-frame_of s count lines = record {
+-- how many lines stand below the nodes: one on each invariant, and one that says that memory ran out, if it did
+abbrev pub lines : ℕ → Bool → ℕ
+lines verdicts true = capped (verdicts + 1)
+lines verdicts false = verdicts
+
+-- how many pixels that last line has
+abbrev pub last_width : Bool → ℕ
+last_width true = letters (length RAN_OUT.now) 0
+last_width false = 0
+
+-- the measures for the runs of a system with so many actions, verdicts on so many invariants, and in which memory ran
+-- out, if it is short
+abbrev pub frame_of : SystemParts → ℕ → ℕ → Bool → Frame
+frame_of s count verdicts short = record {
   count = count;
   step = step_for count;
   margin = margin_of s.programs;
-  right = right_of s.invariants (capped (count * step_for count));
+  right = right_of s.invariants (max (capped (count * step_for count)) (last_width short));
   base = row (length s.programs);
-  bottom = capped (row (length s.programs) + capped (lines * LINE));
+  bottom = capped (row (length s.programs) + capped (lines verdicts short * LINE));
+  is_short = short;
 }

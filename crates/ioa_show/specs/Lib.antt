@@ -5,6 +5,7 @@ pub mod Frames
 pub mod Json
 pub mod Marks
 pub mod Matching
+pub mod Memory
 pub mod Sequences
 pub mod Shown
 pub mod States

@@ -1,7 +1,7 @@
 -- The marks of a space-time diagram as SVG (form): the lines of the nodes, the numbers above them, what is said of the
 -- invariants, and the dots of the actions.
 use Rattle.std.specs.Prelude.{ℕ, zero, suc, ℤ, ◌+◌, ◌-◌, ◌*◌, ◌/◌, ◌%◌, ◌&&◌, max, nat_eq, nat_lt, if◌then◌else◌}
-use Rattle.std.specs.Prelude.{List, [], ◌∷◌, ◌++◌, codes}
+use Rattle.std.specs.Prelude.{Bool, true, false, List, [], ◌∷◌, ◌++◌, codes, length}
 use Rattle.std.specs.Fmt.{decimal, signed_decimal}
 use Rattle.ioa_actions.specs.ActionParts.{node_of}
 use Rattle.ioa_actions.specs.ActionText.{entry_text}
@@ -19,6 +19,7 @@ use Rattle.ioa_show.specs.declared.frame.Frame.{Frame}
 use Rattle.ioa_show.specs.declared.frame.Point.{Point}
 use Rattle.ioa_show.specs.declared.frame.TheConstants.{LABEL_END, LINE}
 use Rattle.ioa_show.specs.declared.lanes.TheConstants.{APART, LEFT}
+use Rattle.ioa_show.specs.declared.memory.TheConstants.{RAN_OUT}
 
 -- the beginning of an attribute, its number, and the quote behind it
 abbrev pub attribute : List ℕ → ℕ → List ℕ
@@ -120,6 +121,23 @@ abbrev pub breaks : Frame → ℕ → List InvariantParts → List Verdict → L
 breaks f n [] ws = []
 breaks f n (v ∷ vs) [] = []
 breaks f n (v ∷ vs) (w ∷ ws) = break_at f n v.name w ++ breaks f (n + 1) vs ws
+
+-- where the line stands that says that memory ran out: below so many others
+unfoldable pub last_start : Frame → ℕ → List ℕ
+last_start f n = attribute (codes "<text class=\"b\" x=\"72\" y=\"") (capped (f.base + capped (n * LINE)))
+
+-- that line
+unfoldable pub last_line : Frame → ℕ → List ℕ
+last_line f n = last_start f n ++ (codes ">" ++ (RAN_OUT.now ++ codes "</text>\n"))
+
+-- the same, if memory ran out
+abbrev pub last_mark : Bool → Frame → ℕ → List ℕ
+last_mark true f n = last_line f n
+last_mark false f n = []
+
+-- what stands below the lines of the nodes: what is said of each invariant, and then that memory ran out, if it did
+abbrev pub below : Frame → List InvariantParts → List Verdict → List ℕ
+below f vs ws = breaks f 0 vs ws ++ last_mark f.is_short f (length ws)
 
 -- the class of the dot of an action: of messages, of a node alone, or of an input that a script puts in
 abbrev pub action_class : Action → List ℕ

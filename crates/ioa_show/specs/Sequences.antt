@@ -1,6 +1,6 @@
 -- The sequence diagram of a run for Mermaid (form): its lines in order, each ended by a line feed.
 use Rattle.std.specs.Prelude.{ℕ, ℤ, ◌+◌, nat_lt, if◌then◌else◌, List, [], ◌∷◌, ◌++◌, codes, length, map}
-use Rattle.std.specs.Prelude.{Option, Some, None}
+use Rattle.std.specs.Prelude.{Bool, true, false, Option, Some, None}
 use Rattle.std.specs.Fmt.{decimal, signed_decimal}
 use Rattle.ioa_values.specs.Data.{Data}
 use Rattle.ioa_values.specs.Text.{text, with_commas}
@@ -11,7 +11,10 @@ use Rattle.ioa_actions.specs.declared.action.Action.TheVariants.{Send, Receive, 
 use Rattle.ioa_system.specs.Parts.{Parts}
 use Rattle.ioa_system.specs.Systems.{SystemParts}
 use Rattle.ioa_transitions.specs.Entries.{PlainEntry}
+use Rattle.ioa_record.specs.declared.ending.Ending.{Ending}
 use Rattle.ioa_show.specs.Matching.{partner_at, partners_of}
+use Rattle.ioa_show.specs.Memory.{ran_out}
+use Rattle.ioa_show.specs.declared.memory.TheConstants.{RAN_OUT}
 use Rattle.ioa_show.specs.declared.sequence.TheConstants.{MANY}
 
 -- the first line
@@ -87,12 +90,21 @@ entry_lines names ps k [] = []
 entry_lines names ps k (e ∷ more) =
     entry_line names k (partner_at k ps) e.action e.chosen ++ entry_lines names ps (k + 1) more
 
--- the whole diagram, if these are the partners of the actions
-abbrev pub sequence_text : SystemParts → List (Option ℕ) → List PlainEntry → List ℕ
-sequence_text s ps entries =
-    title ++ (participant_lines s.programs
-    ++ (warning (length entries) ++ entry_lines s.names ps 0 entries))
+-- a note that memory ran out
+unfoldable pub last_words : List ℕ
+last_words = codes "    Note over n0: " ++ (RAN_OUT.now ++ codes "\n")
 
--- the diagram of a run, with the partners of its actions
-abbrev pub sequence_of : SystemParts → List PlainEntry → List ℕ
-sequence_of s entries = sequence_text s (partners_of entries) entries
+-- that note, if it did
+abbrev pub last_note : Bool → List ℕ
+last_note true = last_words
+last_note false = []
+
+-- the whole diagram, if these are the partners of the actions, and with whether memory ran out
+abbrev pub sequence_text : SystemParts → List (Option ℕ) → Bool → List PlainEntry → List ℕ
+sequence_text s ps short entries =
+    title ++ (participant_lines s.programs
+    ++ (warning (length entries) ++ (entry_lines s.names ps 0 entries ++ last_note short)))
+
+-- the diagram of a run that left these endings, with the partners of its actions
+abbrev pub sequence_of : SystemParts → List PlainEntry → List Ending → List ℕ
+sequence_of s entries endings = sequence_text s (partners_of entries) (ran_out endings) entries

@@ -18,7 +18,10 @@ use Rattle.ioa_compose.specs.Start.{start}
 use Rattle.ioa_compose.specs.declared.configuration.Conf.{Conf}
 use Rattle.ioa_compose.specs.declared.configuration.Conf.TheVariants.{Node, Queue}
 use Rattle.ioa_paper.specs.Papers.{PlainPaper, and_text}
+use Rattle.ioa_record.specs.declared.ending.Ending.{Ending}
 use Rattle.ioa_show.specs.Json.{json}
+use Rattle.ioa_show.specs.Memory.{ran_out}
+use Rattle.ioa_show.specs.declared.memory.TheConstants.{RAN_OUT}
 
 -- the variable x of node i is `x@i`, behind a comma
 unfoldable pub variable_key : List ℕ → ℤ → List ℕ
@@ -91,25 +94,37 @@ later_states names k (e ∷ more) cs = if_step (λ next.
     ++ later_states names (k + 1) more next)
     (joint_answer e cs)
 
+-- the description of a run in which memory ran out
+unfoldable pub described : List ℕ
+described = codes "\"description\":\"" ++ (RAN_OUT.now ++ codes "\",")
+
+-- that description, if memory ran out
+abbrev pub description : Bool → List ℕ
+description true = described
+description false = []
+
 -- what stands in front of the names of what a state has, and behind them
-unfoldable pub opening_words : List ℕ
-opening_words = codes "{\"#meta\":{\"format\":\"ITF\",\"varTypes\":{}},\"vars\":[\"action\""
+unfoldable pub opening_words : Bool → List ℕ
+opening_words short =
+    codes "{\"#meta\":{" ++ (description short
+    ++ codes "\"format\":\"ITF\",\"varTypes\":{}},\"vars\":[\"action\"")
 
 unfoldable pub states_words : List ℕ
 states_words = codes "],\"states\":[\n"
 
 -- the names of what a state has, and the first state
-abbrev pub head_text : List (List ℕ) → List Conf → List ℕ
-head_text names cs =
-    opening_words ++ (flat_map conf_keys cs ++ (states_words ++ state_text names 0 (codes "start") cs))
+abbrev pub head_text : List (List ℕ) → Bool → List Conf → List ℕ
+head_text names short cs =
+    opening_words short ++ (flat_map conf_keys cs ++ (states_words ++ state_text names 0 (codes "start") cs))
 
--- all states from this one on
-abbrev pub states_from : List (List ℕ) → List PlainEntry → List Conf → List ℕ
-states_from names entries cs = head_text names cs ++ (later_states names 0 entries cs ++ codes "\n]}\n")
+-- all states from this one on, with whether memory ran out
+abbrev pub states_from : List (List ℕ) → Bool → List PlainEntry → List Conf → List ℕ
+states_from names short entries cs =
+    head_text names short cs ++ (later_states names 0 entries cs ++ codes "\n]}\n")
 
--- the states of a system along a schedule from its start
-unfoldable pub states_text : SystemParts → List PlainEntry → List ℕ
-states_text s entries = states_from s.names entries (start s)
+-- the states of a system along a schedule from its start, with whether memory ran out in a run that left these endings
+unfoldable pub states_text : SystemParts → List PlainEntry → List Ending → List ℕ
+states_text s entries endings = states_from s.names (ran_out endings) entries (start s)
 
 -- an entry is a step or not: the state behind it is written, or nothing new
 abbrev pub Steps : Bool → Result (List Conf) StepFault → List Conf → (old new : PlainPaper) → List ℕ → Type 0

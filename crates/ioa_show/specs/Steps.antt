@@ -18,8 +18,11 @@ use Rattle.ioa_compose.specs.Participants.{participants_of}
 use Rattle.ioa_compose.specs.Start.{start}
 use Rattle.ioa_compose.specs.declared.configuration.Conf.{Conf}
 use Rattle.ioa_compose.specs.declared.configuration.Conf.TheVariants.{Node, Queue}
+use Rattle.ioa_record.specs.declared.ending.Ending.{Ending}
+use Rattle.ioa_show.specs.Memory.{ran_out}
 use Rattle.ioa_show.specs.States.{if_step}
 use Rattle.ioa_show.specs.Tagged.{tagged}
+use Rattle.ioa_show.specs.declared.memory.TheConstants.{RAN_OUT}
 
 -- values with commas between, each with its sort
 abbrev pub values_told : List (List ℕ) → List Data → List ℕ
@@ -145,6 +148,14 @@ step_lines names k [] cs = []
 step_lines names k (e ∷ more) cs =
     if_step (λ next. step_line names k e cs next ++ step_lines names (k + 1) more next) (joint_answer e cs)
 
--- the steps of a system along a schedule from its start
-unfoldable pub steps_text : SystemParts → List PlainEntry → List ℕ
-steps_text s entries = step_lines s.names 0 entries (start s)
+-- the last line, if memory ran out
+unfoldable pub last_words : List ℕ
+last_words = codes "{\"kind\":\"end\",\"text\":\"" ++ (RAN_OUT.now ++ codes "\"}\n")
+
+abbrev pub last_line : Bool → List ℕ
+last_line true = last_words
+last_line false = []
+
+-- the steps of a system along a schedule from its start, and whether memory ran out in a run that left these endings
+unfoldable pub steps_text : SystemParts → List PlainEntry → List Ending → List ℕ
+steps_text s entries endings = step_lines s.names 0 entries (start s) ++ last_line (ran_out endings)

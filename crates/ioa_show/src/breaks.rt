@@ -1,13 +1,14 @@
-//! Where invariants are first not true.
+//! Where invariants are first not true, and whether memory ran out.
 
 ghost use Rattle.std.specs.Prelude.{◌≡◌, ◌++◌};
 ghost use Rattle.std.specs.Fmt.{decimal};
 ghost use Rattle.ioa_verdicts.specs.Verdicts.{verdict_text};
 ghost use Rattle.ioa_paper.specs.Papers.{and_text};
-ghost use Rattle.ioa_show.specs.Marks.{break_at, break_line, break_mark, break_start, break_words, breaks};
-ghost use Rattle.ioa_show.specs.Marks.{verdict_class};
+ghost use Rattle.ioa_show.specs.Marks.{below, break_at, break_line, break_mark, break_start, break_words, breaks};
+ghost use Rattle.ioa_show.specs.Marks.{last_line, last_mark, last_start, verdict_class};
 
 use crate::frame::{Frame, LINE, Point};
+use crate::memory::RAN_OUT;
 use crate::space_time::{put_line, put_number};
 use ioa_paper::Paper;
 use ioa_streams::Out;
@@ -17,8 +18,53 @@ use ioa_verdicts::Verdict;
 /// Where an upright begins.
 const HIGH: usize = 18;
 
+/// Writes what stands below the lines of the nodes: what is said of each invariant, and then that memory ran out, if it
+/// did.
+pub fn put_below<O: Out>(
+    paper: &mut Paper<'_, O>,
+    frame: Frame,
+    invariants: &[CheckedInvariant],
+    verdicts: &[Verdict],
+)
+    ensures { paper.new ≡ and_text paper.old (below frame invariants.now verdicts.now) }
+{
+    put_breaks(paper, frame, invariants, verdicts);
+    put_last(paper, frame, verdicts.len());
+}
+
+/// Writes that memory ran out, if it did, below so many lines.
+fn put_last<O: Out>(paper: &mut Paper<'_, O>, frame: Frame, position: usize)
+    ensures { paper.new ≡ and_text paper.old (last_mark frame.is_short frame position) }
+{
+    if frame.is_short {
+        put_last_line(paper, frame, position);
+    }
+}
+
+/// Writes that memory ran out.
+fn put_last_line<O: Out>(paper: &mut Paper<'_, O>, frame: Frame, position: usize)
+    ensures { paper.new ≡ and_text paper.old (last_line frame position) }
+{
+    put_last_start(paper, frame, position);
+    paper.put(">");
+    paper.put(RAN_OUT);
+    paper.put("</text>\n");
+}
+
+/// Writes where that line stands.
+fn put_last_start<O: Out>(paper: &mut Paper<'_, O>, frame: Frame, position: usize)
+    ensures { paper.new ≡ and_text paper.old (last_start frame position) }
+{
+    let line = position.saturating_mul(LINE);
+    put_number(
+        paper,
+        "<text class=\"b\" x=\"72\" y=\"",
+        frame.base.saturating_add(line),
+    );
+}
+
 /// Writes a red upright for each invariant that does not hold, and below the lines of the nodes what is said of each.
-pub fn put_breaks<O: Out>(
+fn put_breaks<O: Out>(
     paper: &mut Paper<'_, O>,
     frame: Frame,
     invariants: &[CheckedInvariant],

@@ -5,6 +5,7 @@ ghost use Rattle.std.specs.Arc.{arc_value};
 ghost use Rattle.ioa_show.specs.Frames as spec;
 ghost use Rattle.ioa_show.specs.Frames.{frame_of, margin_of, point_of, right_of, x_of, y_of};
 
+use crate::memory::RAN_OUT;
 use ioa_system::{CheckedInvariant, Program, System};
 use std::sync::Arc;
 
@@ -68,12 +69,15 @@ pub struct Frame {
     pub base: usize,
     /// Where the diagram ends below.
     pub bottom: usize,
+    /// Whether a line says that memory ran out.
+    pub is_short: bool,
 }
 
 impl Frame {
-    /// The measures for the runs of a system with so many actions, and verdicts on so many invariants.
-    pub fn of(system: &System, count: usize, verdicts: usize) -> Frame
-        ensures { result ≡ frame_of system.now count verdicts }
+    /// The measures for the runs of a system with so many actions, verdicts on so many invariants, and in which memory
+    /// ran out, if it is short.
+    pub fn of(system: &System, count: usize, verdicts: usize, is_short: bool) -> Frame
+        ensures { result ≡ frame_of system.now count verdicts is_short }
     {
         let step = step_for(count);
         let base = row(system.programs().len());
@@ -81,9 +85,13 @@ impl Frame {
             count,
             step,
             margin: margin(system.programs()),
-            right: right(system.invariants(), count.saturating_mul(step)),
+            right: right(
+                system.invariants(),
+                count.saturating_mul(step).max(last_width(is_short)),
+            ),
             base,
-            bottom: base.saturating_add(verdicts.saturating_mul(LINE)),
+            bottom: base.saturating_add(lines(verdicts, is_short).saturating_mul(LINE)),
+            is_short,
         }
     }
 
@@ -116,6 +124,28 @@ impl Frame {
         ensures { result ≡ spec.width self }
     {
         self.margin.saturating_add(self.right)
+    }
+}
+
+/// How many lines stand below the nodes.
+fn lines(verdicts: usize, is_short: bool) -> usize
+    ensures { result ≡ spec.lines verdicts is_short }
+{
+    if is_short {
+        verdicts.saturating_add(1)
+    } else {
+        verdicts
+    }
+}
+
+/// How wide the line is that says that memory ran out, if there is one.
+fn last_width(is_short: bool) -> usize
+    ensures { result ≡ spec.last_width is_short }
+{
+    if is_short {
+        letters(RAN_OUT.len(), 0)
+    } else {
+        0
     }
 }
 
@@ -155,7 +185,7 @@ fn margin(programs: &[Arc<Program>]) -> usize
     letters(longest, AROUND_AUTOMATON).saturating_sub(LABEL_END)
 }
 
-/// Where the diagram ends on the right, if its actions take so many pixels.
+/// Where the diagram ends on the right, if its actions and its last line take so many pixels.
 fn right(invariants: &[CheckedInvariant], length: usize) -> usize
     ensures { result ≡ right_of invariants.now length }
 {

@@ -11,6 +11,8 @@ mod breaks;
 mod dots;
 mod frame;
 mod lanes;
+mod memory;
+mod outcome;
 mod partners;
 mod sequence;
 mod space_time;

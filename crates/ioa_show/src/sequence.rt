@@ -7,14 +7,16 @@ ghost use Rattle.ioa_values.specs.Text.{text, with_commas};
 ghost use Rattle.ioa_paper.specs.Papers.{and_text};
 ghost use Rattle.ioa_show.specs.Shown.{PutsWhole};
 ghost use Rattle.ioa_show.specs.Sequences.{action_note, arrow, choice_note, ends, entry_line, entry_lines};
-ghost use Rattle.ioa_show.specs.Sequences.{many_note, note, participant_line, participant_lines, participant_text};
+ghost use Rattle.ioa_show.specs.Sequences.{last_note, last_words, many_note, note};
+ghost use Rattle.ioa_show.specs.Sequences.{participant_line, participant_lines, participant_text};
 ghost use Rattle.ioa_show.specs.Sequences.{positions, send_note, sequence_of, sequence_text, title, warning};
 
+use crate::memory::{RAN_OUT, ran_out};
 use crate::partners::{partner_at, partners};
 use ioa_actions::{Action, NodeAction};
 use ioa_paper::{Paper, ReportFault, put_arguments, put_choices, put_listed, put_value, room};
 use ioa_rawlog::RawLog;
-use ioa_record::Record;
+use ioa_record::{Ending, Record};
 use ioa_streams::{Out, OutFailed};
 use ioa_system::{Program, System};
 use ioa_transitions::Entry;
@@ -27,21 +29,29 @@ pub const MANY: usize = 1_000;
 
 /// Puts out the sequence diagram of a run (Lynch 8.1; form: profile) for Mermaid: a participant for each node, a
 /// message at its receive with the positions of its send and its receive, so that no two arrows cross, and a note for
-/// each other action, for each message that was not received, and for what the effect of a send or a receive chose.
+/// each other action, for each message that was not received, and for what the effect of a send or a receive chose. If
+/// memory ran out in the run, by these endings, a last note says so.
 pub fn mermaid<O: Out>(
     alloc: Global,
     system: &System,
     run_record: &Record,
+    endings: &[Ending],
     out: &mut O,
 ) -> Result<(), ReportFault>
     requires { O.failed out.old ≡ false }
-    ensures { PutsWhole (sequence_of system.now run_record.now.schedule)
+    ensures { PutsWhole (sequence_of system.now run_record.now.schedule endings.now)
         (O.bytes out.old) (O.bytes out.new) (O.failed out.new) result }
 {
     let partners = partners(alloc, &run_record.schedule)?;
     let room = room(alloc)?;
     let mut paper = Paper::new(out, room);
-    put_sequence(&mut paper, system, &run_record.schedule, &partners);
+    put_sequence(
+        &mut paper,
+        system,
+        &run_record.schedule,
+        &partners,
+        ran_out(endings),
+    );
     let (out, outcome) = paper.finish();
     // No effect at run time. The proof reads what `out` holds from the reference that comes back.
     let _ = &*out;
@@ -57,13 +67,33 @@ fn put_sequence<O: Out>(
     system: &System,
     schedule: &RawLog<Entry>,
     partners: &[Option<usize>],
+    is_short: bool,
 )
-    ensures { paper.new ≡ and_text paper.old (sequence_text system.now partners.now schedule.now) }
+    ensures { paper.new ≡ and_text paper.old (sequence_text system.now partners.now is_short schedule.now) }
 {
     put_title(paper);
     put_participants(paper, system.programs());
     put_warning(paper, schedule.len());
     put_entries(paper, system.names(), schedule, partners);
+    put_last(paper, is_short);
+}
+
+/// Writes the last note, if memory ran out.
+fn put_last<O: Out>(paper: &mut Paper<'_, O>, is_short: bool)
+    ensures { paper.new ≡ and_text paper.old (last_note is_short) }
+{
+    if is_short {
+        put_last_note(paper);
+    }
+}
+
+/// Writes the last note.
+fn put_last_note<O: Out>(paper: &mut Paper<'_, O>)
+    ensures { paper.new ≡ and_text paper.old last_words }
+{
+    paper.put("    Note over n0: ");
+    paper.put(RAN_OUT);
+    paper.put("\n");
 }
 
 /// Writes the first line.

@@ -7,14 +7,15 @@ ghost use Rattle.ioa_show.specs.Diagrams.{diagram_of, diagram_text, drawing, hea
 ghost use Rattle.ioa_show.specs.Shown.{PutsWhole};
 
 use crate::arrows::{entries_of, put_messages};
-use crate::breaks::put_breaks;
+use crate::breaks::put_below;
 use crate::dots::put_dots;
 use crate::frame::{Frame, Point};
 use crate::lanes::{put_lanes, put_ticks};
+use crate::memory::ran_out;
 use crate::partners::partners;
 use ioa_paper::{Paper, ReportFault, room};
 use ioa_rawlog::RawLog;
-use ioa_record::Record;
+use ioa_record::{Ending, Record};
 use ioa_streams::{Out, OutFailed};
 use ioa_system::System;
 use ioa_transitions::Entry;
@@ -48,18 +49,20 @@ text { font: 11px monospace; fill: #333 }
 /// Puts out the space-time diagram of a run (Lynch 8.1; form: profile) as SVG: a line for each node, its actions as
 /// dots from left to right in the order of the schedule, an arrow for each message from its send to its receive, a red
 /// dashed line for one that was not received, and a red upright where an invariant is first not true. Each dot has its
-/// line of the report as its title, and each arrow has those of its send and its receive.
+/// line of the report as its title, and each arrow has those of its send and its receive. If memory ran out in the run,
+/// by these endings, a last line of text says so.
 pub fn svg<O: Out>(
     alloc: Global,
     system: &System,
     run_record: &Record,
+    endings: &[Ending],
     out: &mut O,
 ) -> Result<(), ReportFault>
     requires { O.failed out.old ≡ false }
-    ensures { PutsWhole (diagram_of system.now run_record.now.schedule)
+    ensures { PutsWhole (diagram_of system.now run_record.now.schedule endings.now)
         (O.bytes out.old) (O.bytes out.new) (O.failed out.new) result }
 {
-    let verdicts = verdicts(alloc, system, run_record)?;
+    let verdicts = verdicts(alloc, system, &run_record.schedule)?;
     let partners = partners(alloc, &run_record.schedule)?;
     let entries = entries_of(alloc, &run_record.schedule)?;
     let room = room(alloc)?;
@@ -71,6 +74,7 @@ pub fn svg<O: Out>(
         &run_record.schedule,
         &partners,
         &verdicts,
+        ran_out(endings),
     );
     let (out, outcome) = paper.finish();
     // No effect at run time. The proof reads what `out` holds from the reference that comes back.
@@ -90,11 +94,13 @@ fn put_diagram<O: Out>(
     schedule: &RawLog<Entry>,
     partners: &[Option<usize>],
     verdicts: &[Verdict],
+    is_short: bool,
 )
     requires { map (λ e. e.now) entries.now ≡ schedule.now }
-    ensures { paper.new ≡ and_text paper.old (diagram_text system.now partners.now verdicts.now schedule.now) }
+    ensures { paper.new ≡ and_text paper.old
+        (diagram_text system.now partners.now verdicts.now is_short schedule.now) }
 {
-    let frame = Frame::of(system, schedule.len(), verdicts.len());
+    let frame = Frame::of(system, schedule.len(), verdicts.len(), is_short);
     put_drawing(paper, frame, system, entries, schedule, partners, verdicts);
 }
 
@@ -114,7 +120,7 @@ fn put_drawing<O: Out>(
     put_head(paper, frame);
     put_lanes(paper, frame, system.programs());
     put_ticks(paper, frame);
-    put_breaks(paper, frame, system.invariants(), verdicts);
+    put_below(paper, frame, system.invariants(), verdicts);
     put_messages(paper, frame, system.names(), entries, schedule, partners);
     put_dots(paper, frame, system.names(), schedule);
     paper.put("</svg>\n");

@@ -6,18 +6,21 @@ ghost use Rattle.ioa_actions.specs.ActionText.{entry_text};
 ghost use Rattle.ioa_compose.specs.Composition.{joint_answer};
 ghost use Rattle.ioa_compose.specs.Start.{start};
 ghost use Rattle.ioa_paper.specs.Papers.{and_text};
-ghost use Rattle.ioa_show.specs.Shown.{Continues, PutsText};
-ghost use Rattle.ioa_show.specs.States.{Steps, conf_fields, head_text, index_words, later_states};
-ghost use Rattle.ioa_show.specs.States.{opening_words, state_text, states_from, states_text, states_words};
+ghost use Rattle.ioa_show.specs.Shown.{Continues, HasBeginning, PutsText};
+ghost use Rattle.ioa_show.specs.States.{Steps, conf_fields, described, description, head_text, index_words};
+ghost use Rattle.ioa_show.specs.States.{later_states, opening_words, state_text, states_from, states_text};
+ghost use Rattle.ioa_show.specs.States.{states_words};
 
+use crate::memory::{RAN_OUT, ran_out};
+use crate::outcome::outcome_of;
 use crate::state_parts::{put_confs, put_keys};
 use ioa_actions::StepFault;
 use ioa_compose::Conf;
 use ioa_course::Course;
 use ioa_paper::{Paper, ReportFault, put_entry, room};
 use ioa_rawlog::RawLog;
-use ioa_record::Record;
-use ioa_streams::{Out, OutFailed};
+use ioa_record::{Ending, Record};
+use ioa_streams::Out;
 use ioa_system::System;
 use ioa_transitions::Entry;
 use ioa_values::Names;
@@ -26,30 +29,29 @@ use std::alloc::{AllocError, Global};
 /// Puts out the states of a run in the informal trace format (form: profile), which is JSON: the names of what a state
 /// has, and then a state a line, the start first, each with the action that leads to it and what its effect chose. A
 /// state has each variable `x` of node k as `x@k`, and the messages that wait on a channel as `queue(i, j)`. Behind an
-/// entry that is no step there is no state. `Memory` (3) can come when a part is out already, since each state is made
-/// when the one before it is written.
+/// entry that is no step there is no state. If memory ran out in the run, by these endings, the description of the
+/// whole says so. `Memory` (3) can come when a beginning is out already, since each state is made when the one before
+/// it is written.
 pub fn itf<O: Out>(
     alloc: Global,
     system: &System,
     run_record: &Record,
+    endings: &[Ending],
     out: &mut O,
 ) -> Result<(), ReportFault>
     requires { O.failed out.old ≡ false }
-    ensures { PutsText (states_text system.now run_record.now.schedule)
+    ensures { PutsText (states_text system.now run_record.now.schedule endings.now)
         (O.bytes out.old) (O.bytes out.new) (O.failed out.new) result }
 {
     let mut course = Course::start(alloc, system)?;
     let room = room(alloc)?;
     let mut paper = Paper::new(out, room);
-    let walked = put_all(alloc, &mut paper, system, &mut course, &run_record.schedule);
-    let (out, outcome) = paper.finish();
+    let schedule = &run_record.schedule;
+    let walked = put_all(alloc, &mut paper, system, &mut course, schedule, endings);
+    let (out, sent) = paper.finish();
     // No effect at run time. The proof reads what `out` holds from the reference that comes back.
     let _ = &*out;
-    walked?;
-    match outcome {
-        Ok(()) => Ok(()),
-        Err(OutFailed) => Err(ReportFault::Write),
-    }
+    outcome_of(walked, sent)
 }
 
 /// Writes the names of what a state has, and all states of a system from its start.
@@ -60,12 +62,17 @@ fn put_all<O: Out>(
     system: &System,
     course: &mut Course,
     schedule: &RawLog<Entry>,
+    endings: &[Ending],
 ) -> Result<(), AllocError>
     requires { course.old ≡ start system.now }
-    ensures whole { OnOk result (paper.new ≡ and_text paper.old (states_text system.now schedule.now)) }
+    ensures whole { OnOk result
+        (paper.new ≡ and_text paper.old (states_text system.now schedule.now endings.now)) }
+    ensures beginning { OnErr result
+        (HasBeginning (states_text system.now schedule.now endings.now) paper.old paper.new) }
     ensures part { Continues paper.old paper.new }
 {
-    put_states(alloc, paper, system.names(), course, schedule)
+    let is_short = ran_out(endings);
+    put_states(alloc, paper, system.names(), course, schedule, is_short)
 }
 
 /// Writes the names of what a state has, and all states from this one on.
@@ -75,31 +82,55 @@ fn put_states<O: Out>(
     names: &Names,
     course: &mut Course,
     schedule: &RawLog<Entry>,
+    is_short: bool,
 ) -> Result<(), AllocError>
-    ensures whole { OnOk result (paper.new ≡ and_text paper.old (states_from names.now schedule.now course.old)) }
+    ensures whole { OnOk result
+        (paper.new ≡ and_text paper.old (states_from names.now is_short schedule.now course.old)) }
+    ensures beginning { OnErr result
+        (HasBeginning (states_from names.now is_short schedule.now course.old) paper.old paper.new) }
     ensures part { Continues paper.old paper.new }
 {
-    put_head(paper, names, course.confs());
+    put_head(paper, names, is_short, course.confs());
     put_later(alloc, paper, names, course, schedule)?;
     paper.put("\n]}\n");
     Ok(())
 }
 
 /// Writes the names of what a state has, and the first state.
-fn put_head<O: Out>(paper: &mut Paper<'_, O>, names: &Names, confs: &[Conf])
-    ensures { paper.new ≡ and_text paper.old (head_text names.now confs.now) }
+fn put_head<O: Out>(paper: &mut Paper<'_, O>, names: &Names, is_short: bool, confs: &[Conf])
+    ensures { paper.new ≡ and_text paper.old (head_text names.now is_short confs.now) }
 {
-    put_opening(paper);
+    put_opening(paper, is_short);
     put_keys(paper, confs);
     put_between(paper);
     put_start(paper, names, confs);
 }
 
 /// Writes what stands in front of the names of what a state has.
-fn put_opening<O: Out>(paper: &mut Paper<'_, O>)
-    ensures { paper.new ≡ and_text paper.old opening_words }
+fn put_opening<O: Out>(paper: &mut Paper<'_, O>, is_short: bool)
+    ensures { paper.new ≡ and_text paper.old (opening_words is_short) }
 {
-    paper.put("{\"#meta\":{\"format\":\"ITF\",\"varTypes\":{}},\"vars\":[\"action\"");
+    paper.put("{\"#meta\":{");
+    put_description(paper, is_short);
+    paper.put("\"format\":\"ITF\",\"varTypes\":{}},\"vars\":[\"action\"");
+}
+
+/// Writes the description of the whole, if memory ran out.
+fn put_description<O: Out>(paper: &mut Paper<'_, O>, is_short: bool)
+    ensures { paper.new ≡ and_text paper.old (description is_short) }
+{
+    if is_short {
+        put_described(paper);
+    }
+}
+
+/// Writes the description of a run in which memory ran out.
+fn put_described<O: Out>(paper: &mut Paper<'_, O>)
+    ensures { paper.new ≡ and_text paper.old described }
+{
+    paper.put("\"description\":\"");
+    paper.put(RAN_OUT);
+    paper.put("\",");
 }
 
 /// Writes what stands behind these names.
@@ -127,6 +158,8 @@ fn put_later<O: Out>(
     schedule: &RawLog<Entry>,
 ) -> Result<(), AllocError>
     ensures whole { OnOk result (paper.new ≡ and_text paper.old (later_states names.now 0 schedule.now course.old)) }
+    ensures beginning { OnErr result
+        (HasBeginning (later_states names.now 0 schedule.now course.old) paper.old paper.new) }
     ensures part { Continues paper.old paper.new }
 {
     let mut passed = 0;
@@ -151,6 +184,7 @@ fn put_step<O: Out>(
     ensures step { IfOk result (λ b. Steps b (joint_answer entry.now course.old) course.new paper.old paper.new
         (codes ",\n" ++ state_text names.now passed (entry_text names.now entry.now.action entry.now.chosen)
         course.new)) }
+    ensures nothing { OnErr result (paper.new ≡ paper.old) }
     ensures part { Continues paper.old paper.new }
 {
     match course.advance(alloc, entry) {

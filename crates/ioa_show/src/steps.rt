@@ -1,24 +1,26 @@
 //! The steps of a run as JSON.
 
-ghost use Rattle.std.specs.Prelude.{◌≡◌, false, IfOk, OnOk};
+ghost use Rattle.std.specs.Prelude.{◌≡◌, false, IfOk, OnErr, OnOk};
 ghost use Rattle.std.specs.Option.{option_copied};
 ghost use Rattle.ioa_actions.specs.declared.component.Component.TheVariants as component;
 ghost use Rattle.ioa_compose.specs.Composition.{joint_answer};
 ghost use Rattle.ioa_compose.specs.Start.{start};
 ghost use Rattle.ioa_paper.specs.Papers.{and_text};
-ghost use Rattle.ioa_show.specs.Shown.{Continues, PutsText};
+ghost use Rattle.ioa_show.specs.Shown.{Continues, HasBeginning, PutsText};
 ghost use Rattle.ioa_show.specs.States.{Steps};
-ghost use Rattle.ioa_show.specs.Steps.{done_told, end_told, head_told, line_told, place_told, step_line};
-ghost use Rattle.ioa_show.specs.Steps.{step_lines, steps_text, values_of};
+ghost use Rattle.ioa_show.specs.Steps.{done_told, end_told, head_told, last_line, last_words, line_told, place_told};
+ghost use Rattle.ioa_show.specs.Steps.{step_line, step_lines, steps_text, values_of};
 
+use crate::memory::{RAN_OUT, ran_out};
+use crate::outcome::outcome_of;
 use crate::step_parts::{conf_of, put_arguments, put_changes, put_chosen, put_queue};
 use ioa_actions::{Action, Component, StepFault};
 use ioa_compose::Conf;
 use ioa_course::Course;
 use ioa_paper::{Paper, ReportFault, put_entry, room};
 use ioa_rawlog::RawLog;
-use ioa_record::Record;
-use ioa_streams::{Out, OutFailed};
+use ioa_record::{Ending, Record};
+use ioa_streams::Out;
 use ioa_system::System;
 use ioa_transitions::Entry;
 use ioa_values::{Names, Value, copies};
@@ -26,33 +28,31 @@ use std::alloc::{AllocError, Global};
 
 /// Puts out the steps of a run as JSON (form: profile), a line each: the action with its arguments, its node, its
 /// number and its text, which variables of the node changed, what the effect chose, if it chose something, and the
-/// queue that took part with its new length. Behind an entry that is no step there is nothing. `Memory` (3) can come
-/// when a part is out already.
+/// queue that took part with its new length. Behind an entry that is no step there is nothing. If memory ran out in the
+/// run, by these endings, a last line says so. `Memory` (3) can come when a beginning is out already.
 pub fn json<O: Out>(
     alloc: Global,
     system: &System,
     run_record: &Record,
+    endings: &[Ending],
     out: &mut O,
 ) -> Result<(), ReportFault>
     requires { O.failed out.old ≡ false }
-    ensures { PutsText (steps_text system.now run_record.now.schedule)
+    ensures { PutsText (steps_text system.now run_record.now.schedule endings.now)
         (O.bytes out.old) (O.bytes out.new) (O.failed out.new) result }
 {
     let mut course = Course::start(alloc, system)?;
     let room = room(alloc)?;
     let mut paper = Paper::new(out, room);
-    let walked = put_all(alloc, &mut paper, system, &mut course, &run_record.schedule);
-    let (out, outcome) = paper.finish();
+    let schedule = &run_record.schedule;
+    let walked = put_all(alloc, &mut paper, system, &mut course, schedule, endings);
+    let (out, sent) = paper.finish();
     // No effect at run time. The proof reads what `out` holds from the reference that comes back.
     let _ = &*out;
-    walked?;
-    match outcome {
-        Ok(()) => Ok(()),
-        Err(OutFailed) => Err(ReportFault::Write),
-    }
+    outcome_of(walked, sent)
 }
 
-/// Writes the lines of all steps of a system from its start.
+/// Writes the lines of all steps of a system from its start, and the last line.
 #[tactic(auto, unfolding(crate::specs::Steps::steps_text))]
 fn put_all<O: Out>(
     alloc: Global,
@@ -60,12 +60,36 @@ fn put_all<O: Out>(
     system: &System,
     course: &mut Course,
     schedule: &RawLog<Entry>,
+    endings: &[Ending],
 ) -> Result<(), AllocError>
     requires { course.old ≡ start system.now }
-    ensures whole { OnOk result (paper.new ≡ and_text paper.old (steps_text system.now schedule.now)) }
+    ensures whole { OnOk result
+        (paper.new ≡ and_text paper.old (steps_text system.now schedule.now endings.now)) }
+    ensures beginning { OnErr result
+        (HasBeginning (steps_text system.now schedule.now endings.now) paper.old paper.new) }
     ensures part { Continues paper.old paper.new }
 {
-    put_steps(alloc, paper, system.names(), course, schedule)
+    put_steps(alloc, paper, system.names(), course, schedule)?;
+    put_last(paper, ran_out(endings));
+    Ok(())
+}
+
+/// Writes the last line, if memory ran out.
+fn put_last<O: Out>(paper: &mut Paper<'_, O>, is_short: bool)
+    ensures { paper.new ≡ and_text paper.old (last_line is_short) }
+{
+    if is_short {
+        put_last_line(paper);
+    }
+}
+
+/// Writes the last line.
+fn put_last_line<O: Out>(paper: &mut Paper<'_, O>)
+    ensures { paper.new ≡ and_text paper.old last_words }
+{
+    paper.put("{\"kind\":\"end\",\"text\":\"");
+    paper.put(RAN_OUT);
+    paper.put("\"}\n");
 }
 
 /// Writes the lines of the entries of a schedule, as far as these are steps.
@@ -77,6 +101,8 @@ fn put_steps<O: Out>(
     schedule: &RawLog<Entry>,
 ) -> Result<(), AllocError>
     ensures whole { OnOk result (paper.new ≡ and_text paper.old (step_lines names.now 0 schedule.now course.old)) }
+    ensures beginning { OnErr result
+        (HasBeginning (step_lines names.now 0 schedule.now course.old) paper.old paper.new) }
     ensures part { Continues paper.old paper.new }
 {
     let mut position = 0;
@@ -100,6 +126,7 @@ fn put_step<O: Out>(
 ) -> Result<bool, AllocError>
     ensures step { IfOk result (λ b. Steps b (joint_answer entry.now course.old) course.new paper.old paper.new
         (step_line names.now position entry.now course.old course.new)) }
+    ensures nothing { OnErr result (paper.new ≡ paper.old) }
     ensures part { Continues paper.old paper.new }
 {
     let node = Component::Node(entry.action().node());

@@ -1,4 +1,4 @@
-use Rattle.std.proofs.Common.{◌≡◌, [], ◌∷◌, ◌++◌, map, rules}
+use Rattle.std.proofs.Common.{◌≡◌, [], ◌∷◌, ◌++◌, rules}
 use Rattle.ioa_show.proofs.Passed.{passed}
 use Rattle.ioa_show.proofs.arrows.entries_of.Goals as goal
 

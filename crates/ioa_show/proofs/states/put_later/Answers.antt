@@ -3,6 +3,7 @@ use Rattle.std.specs.Prelude.{codes}
 use Rattle.ioa_actions.specs.ActionText.{entry_text}
 use Rattle.ioa_paper.specs.Papers.{and_text}
 use Rattle.ioa_show.specs.States.{later_states, state_text}
+use Rattle.ioa_show.proofs.Beginnings.{begins_here, if_failed}
 use Rattle.ioa_show.proofs.Passing.{steps_end, steps_off, steps_on}
 use Rattle.ioa_show.proofs.states.put_later.Goals as goal
 
@@ -41,3 +42,10 @@ returns-then-not-branch-clause-whole g c =
     (and_text c.args.paper.now (later_states c.args.names.now 0 c.args.schedule.now c.args.course.now))
     (codes ",\n" ++ state_text c.args.names.now (c.loop-entry.passed + 1) (entry_text c.args.names.now c.in-Some.entry.now.action c.in-Some.entry.now.chosen) c.put_step.new.course)
     c.in_ok-put_step.field-0 c.loop-entry.invariant.due split c.if-not-branch.true c.in_ok-put_step.ensures.step
+
+pub returns-in_err-put_step-clause-beginning : goal.returns-in_err-put_step-clause-beginning
+returns-in_err-put_step-clause-beginning g c =
+    if_failed c.from_residual.result (
+    begins_here (later_states c.args.names.now 0 c.args.schedule.now c.args.course.now)
+    (later_states c.args.names.now c.loop-entry.passed c.loop-entry.entry-iterator c.loop-entry.course)
+    c.args.paper.now c.loop-entry.paper c.put_step.new.paper c.loop-entry.invariant.due c.in_err-put_step.ensures.nothing)

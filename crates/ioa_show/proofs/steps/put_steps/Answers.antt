@@ -1,6 +1,7 @@
 use Rattle.std.proofs.Common.{◌≡◌, ◌∷◌, ap, arith, length, refl, ◌∙◌}
 use Rattle.ioa_paper.specs.Papers.{and_text}
 use Rattle.ioa_show.specs.Steps.{step_line, step_lines}
+use Rattle.ioa_show.proofs.Beginnings.{begins_here, if_failed}
 use Rattle.ioa_show.proofs.Going.{lines_end, lines_off, lines_on}
 use Rattle.ioa_show.proofs.steps.put_steps.Goals as goal
 
@@ -39,3 +40,10 @@ returns-then-not-branch-clause-whole g c =
     (and_text c.args.paper.now (step_lines c.args.names.now 0 c.args.schedule.now c.args.course.now))
     (step_line c.args.names.now c.loop-entry.position c.in-Some.entry.now c.loop-entry.course c.put_step.new.course)
     c.in_ok-put_step.field-0 c.loop-entry.invariant.due split c.if-not-branch.true c.in_ok-put_step.ensures.step
+
+pub returns-in_err-put_step-clause-beginning : goal.returns-in_err-put_step-clause-beginning
+returns-in_err-put_step-clause-beginning g c =
+    if_failed c.from_residual.result (
+    begins_here (step_lines c.args.names.now 0 c.args.schedule.now c.args.course.now)
+    (step_lines c.args.names.now c.loop-entry.position c.loop-entry.entry-iterator c.loop-entry.course)
+    c.args.paper.now c.loop-entry.paper c.put_step.new.paper c.loop-entry.invariant.due c.in_err-put_step.ensures.nothing)
