@@ -32,7 +32,8 @@ use Rattle.ioa_command.specs.declared.choice.CheckChoice.{CheckChoice}
 use Rattle.ioa_command.specs.declared.choice.Subcommand.TheVariants as subcommand
 use Rattle.ioa_command.specs.declared.faults.TextFault.{TextFault}
 use Rattle.ioa_command.specs.declared.faults.TextFault.TheVariants.{Input, Unread, Run, Explain, Trace, Check, Print}
-use Rattle.ioa_command.specs.Command.{ChecksGivenIn, ChecksIn, ChecksSchedule}
+use Rattle.ioa_pipeline.specs.declared.judging.Judging.{Judging}
+use Rattle.ioa_command.specs.Command.{ChecksGivenIn, ChecksIn, IsFound, Judges}
 use Rattle.ioa_command.specs.Command.{Ends, Executes, Follows, IsDone, IsTraced, Output, Prints, PrintsText, Reports}
 use Rattle.ioa_command.specs.Command.{ExplainsAs, ExplainsText, IsExplained, RunsText, ShowsWords, Tells, TracesText}
 use Rattle.ioa_command.specs.Command.{explained_status, found_status, no_finding}
@@ -49,7 +50,7 @@ IsOneOrThree n = (n ≡ 1) ⊎ (n ≡ 3)
 
 input_range : (f : InputFault) → IsOneOrThree (input_status f)
 input_range input.Read = inr refl
-input_range input.TooLong = inl refl
+input_range (input.TooLong limit) = inl refl
 input_range (input.BadCharacter offset) = inl refl
 input_range input.Memory = inr refl
 
@@ -181,12 +182,12 @@ reports words given out err status r outcome chosen ran told free =
     let done = done_of_told (found_status r.fail_on) err status outcome told free in
     (r, chosen, (done.0, subst (Executes r given out) done.1 ran, done.2))
 
-check_done : (given : Option (List ℕ)) (out err : Output) (status : ℕ) (c : CheckChoice)
-    (outcome : Result (Unit {0}) TextFault) → Follows c given out outcome → Tells no_finding err status outcome
-    → IsOfNoFault status → ChecksSchedule c given out (Ok tt)
-check_done given out err status c outcome followed told free =
-    let done = done_of_told no_finding err status outcome told free in
-    subst (Follows c given out) done.1 followed
+judges : (words : List Text) (given : Option (List ℕ)) (out err : Output) (status : ℕ) (c : CheckChoice)
+    (outcome : Result Findings TextFault) → Chooses words (subcommand.Check c) → Follows c given out outcome
+    → Tells (found_status c.fail_on) err status outcome → IsOfNoFault status → Judges words given out status
+judges words given out err status c outcome chosen followed told free =
+    let done = done_of_told (found_status c.fail_on) err status outcome told free in
+    (c, chosen, (done.0, subst (Follows c given out) done.1 followed, done.2))
 
 trace_done : (given : Option (List ℕ)) (out err : Output) (status : ℕ) (t : TraceChoice)
     (outcome : Result (Unit {0}) TextFault) → IsTraced t given out outcome → Tells no_finding err status outcome
@@ -228,11 +229,8 @@ done_of words given out err status (inl (subcommand.Explain input, chosen, (outc
 done_of words given out err status (inl (subcommand.Trace t, chosen, (outcome, traced, told))) done =
     inr (inr (inl (t, chosen, trace_done given out err status t outcome traced told (none_is_one status done))))
 done_of words given out err status (inl (subcommand.Check c, chosen, (outcome, followed, told))) done =
-    inr (inr (inr (inl (
-      c,
-      chosen,
-      check_done given out err status c outcome followed told (none_is_one status done),
-    ))))
+    inr (inr (inr (inl (subst (Judges words given out) done
+    (judges words given out err status c outcome chosen followed told (none_is_one status done))))))
 done_of words given out err status (inl (subcommand.Print input, chosen, (outcome, printed, told))) done =
     inr (inr (inr (inr (inl (
       input,
@@ -266,16 +264,17 @@ explain_finds_none err status outcome told four =
     explained_none what.0 (sym what.2 ∙ four)
 
 pub found_of : (words : List Text) (given : Option (List ℕ)) (out err : Output) (status : ℕ)
-    → Ends words given out err status → status ≡ 4 → Reports words given out 4
+    → Ends words given out err status → status ≡ 4 → IsFound words given out
 found_of words given out err status (inl (subcommand.Run r, chosen, (outcome, ran, told))) four =
-    subst (Reports words given out) four
-    (reports words given out err status r outcome chosen ran told (four_is_none status four))
+    inl (subst (Reports words given out) four
+    (reports words given out err status r outcome chosen ran told (four_is_none status four)))
 found_of words given out err status (inl (subcommand.Explain input, chosen, (outcome, explained, told))) four =
     absurd (explain_finds_none err status outcome told four)
 found_of words given out err status (inl (subcommand.Trace t, chosen, (outcome, traced, told))) four =
     absurd (finds_none no_finding err status outcome (λ x. refl) told four)
 found_of words given out err status (inl (subcommand.Check c, chosen, (outcome, followed, told))) four =
-    absurd (finds_none no_finding err status outcome (λ x. refl) told four)
+    inr (subst (Judges words given out) four
+    (judges words given out err status c outcome chosen followed told (four_is_none status four)))
 found_of words given out err status (inl (subcommand.Print input, chosen, (outcome, printed, told))) four =
     absurd (finds_none no_finding err status outcome (λ x. refl) told four)
 found_of words given out err status (inr said) four =
@@ -363,21 +362,21 @@ printed_kept input given out (Trace f) printed refuses = absurd printed
 printed_kept input given out (Check f) printed refuses = absurd printed
 printed_kept input given out (Print f) printed refuses = print_kept (given_by input given) out f printed refuses
 
-in_kept : (text lines : List ℕ) (out : Output) (f : CheckScheduleFault) → ChecksIn text lines out (Err f)
-    → Refuses (check_status f) → Keeps out.old out.new
-in_kept text lines out (check.Front f) checks refuses = checks.0.1
-in_kept text lines out (check.Check f) checks refuses = checks.0.1
-in_kept text lines out (check.Schedule f) checks refuses = checks.0.1
-in_kept text lines out check.Memory checks refuses = absurd (not_failed 3 refuses refl)
-in_kept text lines out check.Write checks refuses = absurd (not_failed 3 refuses refl)
+in_kept : (judging : Judging) (text lines : List ℕ) (out : Output) (f : CheckScheduleFault)
+    → ChecksIn judging text lines out (Err f) → Refuses (check_status f) → Keeps out.old out.new
+in_kept judging text lines out (check.Front f) checks refuses = checks.0.1
+in_kept judging text lines out (check.Check f) checks refuses = checks.0.1
+in_kept judging text lines out (check.Schedule f) checks refuses = checks.0.1
+in_kept judging text lines out check.Memory checks refuses = absurd (not_failed 3 refuses refl)
+in_kept judging text lines out check.Write checks refuses = absurd (not_failed 3 refuses refl)
 
-check_kept : (input : InputName) (schedule : Option InputName) (given : Option (List ℕ)) (out : Output)
-    (f : CheckScheduleFault)
-    → ChecksGivenIn input schedule given out (Err f) → Refuses (check_status f) → Keeps out.old out.new
-check_kept input None given out f checks refuses =
-    in_kept (text_part checks.0) (lines_part checks.0) out f checks.2 refuses
-check_kept input (Some s) given out f checks refuses =
-    in_kept checks.0 (schedule_part checks.2.0) out f checks.2.2 refuses
+check_kept : (judging : Judging) (input : InputName) (schedule : Option InputName) (given : Option (List ℕ))
+    (out : Output) (f : CheckScheduleFault)
+    → ChecksGivenIn judging input schedule given out (Err f) → Refuses (check_status f) → Keeps out.old out.new
+check_kept judging input None given out f checks refuses =
+    in_kept judging (text_part checks.0) (lines_part checks.0) out f checks.2 refuses
+check_kept judging input (Some s) given out f checks refuses =
+    in_kept judging checks.0 (schedule_part checks.2.0) out f checks.2.2 refuses
 
 followed_kept : (c : CheckChoice) (given : Option (List ℕ)) (out : Output) (f : TextFault)
     → Follows c given out (Err f) → Refuses (fault_status f) → Keeps out.old out.new
@@ -386,7 +385,8 @@ followed_kept c given out (Unread name) followed refuses = followed.1.1
 followed_kept c given out (Run f) followed refuses = absurd followed
 followed_kept c given out (Explain f) followed refuses = absurd followed
 followed_kept c given out (Trace f) followed refuses = absurd followed
-followed_kept c given out (Check f) followed refuses = check_kept c.input c.schedule given out f followed refuses
+followed_kept c given out (Check f) followed refuses =
+    check_kept c.judging c.input c.schedule given out f followed refuses
 followed_kept c given out (Print f) followed refuses = absurd followed
 
 -- nothing went out before a refusal
@@ -448,7 +448,7 @@ refused_of words given out err status (inl (subcommand.Trace t, chosen, (outcome
     inl (told_kept no_finding out err status outcome told none_free
     (λ f is. traced_kept t given out f (subst (IsTraced t given out) is traced)) refuses)
 refused_of words given out err status (inl (subcommand.Check c, chosen, (outcome, followed, told))) refuses =
-    inl (told_kept no_finding out err status outcome told none_free
+    inl (told_kept (found_status c.fail_on) out err status outcome told (found_free c.fail_on)
     (λ f is. followed_kept c given out f (subst (Follows c given out) is followed)) refuses)
 refused_of words given out err status (inl (subcommand.Print input, chosen, (outcome, printed, told))) refuses =
     inl (told_kept no_finding out err status outcome told none_free

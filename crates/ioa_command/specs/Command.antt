@@ -22,7 +22,9 @@ use Rattle.ioa_pipeline.specs.declared.schedule_check.CheckScheduleFault.{CheckS
 use Rattle.ioa_pipeline.specs.Tracing.{IsRefusalOfTrace, ShowsRun}
 use Rattle.ioa_pipeline.specs.Printing.{IsFaultOfPrint, PrintsAnew}
 use Rattle.ioa_pipeline.specs.WholeRun.{IsExactFor, IsFaultOfWorkers, IsRefusalOf, WritesReport}
-use Rattle.ioa_pipeline.specs.ScheduleChecks.{IsExactForCheck, IsFaultOfCheck, SaysExecution}
+use Rattle.ioa_pipeline.specs.declared.judging.Judging.{Judging}
+use Rattle.ioa_pipeline.specs.Judging.{SaysJudged}
+use Rattle.ioa_pipeline.specs.ScheduleChecks.{IsExactForCheck, IsFaultOfCheck}
 use Rattle.ioa_command.specs.declared.choice.InputName.{InputName}
 use Rattle.ioa_command.specs.declared.choice.RunChoice.{RunChoice}
 use Rattle.ioa_command.specs.declared.choice.TraceChoice.{TraceChoice}
@@ -34,7 +36,8 @@ use Rattle.ioa_command.specs.declared.faults.TextFault.TheVariants.{Input, Unrea
 use Rattle.ioa_command.specs.CommandLine.{AsksForText, Chooses, IsErrorOf, words_status}
 use Rattle.ioa_command.specs.FailOn.{meet}
 use Rattle.ioa_command.specs.Faults.{fault_line, fault_status}
-use Rattle.ioa_command.specs.Inputs.{IsFaultOfInput, IsTextOf, behind, given_behind, given_by, shown_name}
+use Rattle.ioa_command.specs.Inputs.{IsFaultOfInput, IsFaultOfLong, IsTextOf, IsTextWithin}
+use Rattle.ioa_command.specs.Inputs.{behind, given_behind, given_by, schedule_limit, shown_name}
 
 -- an output before and after: its bytes, if they are known, and whether it has failed
 pub record Output : Type 0 where
@@ -71,34 +74,37 @@ RunsText options given out result =
 
 -- lines were checked against a text; a fault is one of them, and no fault of the text that is always found is passed
 -- over
-abbrev pub ChecksIn : (text lines : List ℕ) → Output → Result (Unit {0}) CheckScheduleFault → Type 0
-ChecksIn text lines out result =
-    SaysExecution text lines out.old out.new out.failed result × IfErr result (λ f. IsFaultOfCheck f text lines)
-    × IsExactForCheck result text
+abbrev pub ChecksIn : Judging → (text lines : List ℕ) → Output → Result Findings CheckScheduleFault → Type 0
+ChecksIn judging text lines out result =
+    SaysJudged judging text lines out.old out.new out.failed result
+    × IfErr result (λ f. IsFaultOfCheck f text lines) × IsExactForCheck result text
 
 -- the lines in the input were checked against the text in it
-abbrev pub ChecksLines : Option (List ℕ) → Output → Result (Unit {0}) CheckScheduleFault → Type 0
-ChecksLines given out result =
-    (input : List ℕ) × IsTextOf given input × ChecksIn (text_part input) (lines_part input) out result
+abbrev pub ChecksLines : Judging → Option (List ℕ) → Output → Result Findings CheckScheduleFault → Type 0
+ChecksLines judging given out result =
+    (input : List ℕ) × IsTextOf given input × ChecksIn judging (text_part input) (lines_part input) out result
 
--- the schedule in an input was checked against a text
-abbrev pub ChecksGiven : List ℕ → Option (List ℕ) → Output → Result (Unit {0}) CheckScheduleFault → Type 0
-ChecksGiven text other out result =
-    (lines : List ℕ) × IsTextOf other lines × ChecksIn text (schedule_part lines) out result
+-- the schedule in an input of at most so many bytes was checked against a text
+abbrev pub ChecksGiven : Judging → List ℕ → ℕ → Option (List ℕ) → Output → Result Findings CheckScheduleFault
+    → Type 0
+ChecksGiven judging text limit other out result =
+    (lines : List ℕ) × IsTextWithin limit other lines × ChecksIn judging text (schedule_part lines) out result
 
 -- the schedule in one input was checked against the text in another
-abbrev pub ChecksApart : (given other : Option (List ℕ)) → Output → Result (Unit {0}) CheckScheduleFault → Type 0
-ChecksApart given other out result = (text : List ℕ) × IsTextOf given text × ChecksGiven text other out result
+abbrev pub ChecksApart : Judging → ℕ → (given other : Option (List ℕ)) → Output → Result Findings CheckScheduleFault
+    → Type 0
+ChecksApart judging limit given other out result =
+    (text : List ℕ) × IsTextOf given text × ChecksGiven judging text limit other out result
 
 -- the schedule was checked that stands behind the text in its input, or in an input of its own
-abbrev pub ChecksGivenIn : InputName → Option InputName → Option (List ℕ) → Output
-    → Result (Unit {0}) CheckScheduleFault → Type 0
-ChecksGivenIn input None given out result = ChecksLines (given_by input given) out result
-ChecksGivenIn input (Some s) given out result =
-    ChecksApart (given_by input given) (given_behind input s given) out result
+abbrev pub ChecksGivenIn : Judging → InputName → Option InputName → Option (List ℕ) → Output
+    → Result Findings CheckScheduleFault → Type 0
+ChecksGivenIn judging input None given out result = ChecksLines judging (given_by input given) out result
+ChecksGivenIn judging input (Some s) given out result =
+    ChecksApart judging (schedule_limit s) (given_by input given) (given_behind input s given) out result
 
-abbrev pub ChecksSchedule : CheckChoice → Option (List ℕ) → Output → Result (Unit {0}) CheckScheduleFault → Type 0
-ChecksSchedule c given out result = ChecksGivenIn c.input c.schedule given out result
+abbrev pub ChecksSchedule : CheckChoice → Option (List ℕ) → Output → Result Findings CheckScheduleFault → Type 0
+ChecksSchedule c given out result = ChecksGivenIn c.judging c.input c.schedule given out result
 
 -- the text of the input was laid out anew; a fault is one of that text
 abbrev pub PrintsText : Option (List ℕ) → Output → Result (Unit {0}) PrintFault → Type 0
@@ -109,33 +115,36 @@ PrintsText given out result =
 -- why an input of `check` gives no text
 abbrev pub IsFaultOfSchedule : Option InputName → Option (List ℕ) → TextFault → Type 0
 IsFaultOfSchedule None given f = ⊥
-IsFaultOfSchedule (Some s) given f = IsFaultOfInput s given f
+IsFaultOfSchedule (Some s) given f = IsFaultOfLong s given f
 
 abbrev pub IsFaultOfInputs : CheckChoice → Option (List ℕ) → TextFault → Type 0
 IsFaultOfInputs c given f =
     IsFaultOfInput c.input given f ⊎ IsFaultOfSchedule c.schedule (behind c.input given) f
 
 -- lines were checked against a text, if that ends so
-abbrev pub IsChecked : (text lines : List ℕ) → Output → Result (Unit {0}) TextFault → Type 0
-IsChecked text lines out (Ok x) = ChecksIn text lines out (Ok x)
-IsChecked text lines out (Err (Input f)) = ⊥
-IsChecked text lines out (Err (Unread name)) = ⊥
-IsChecked text lines out (Err (Run f)) = ⊥
-IsChecked text lines out (Err (Explain f)) = ⊥
-IsChecked text lines out (Err (Trace f)) = ⊥
-IsChecked text lines out (Err (Check f)) = ChecksIn text lines out (Err f)
-IsChecked text lines out (Err (Print f)) = ⊥
+abbrev pub IsChecked : Judging → (text lines : List ℕ) → Output → Result Findings TextFault → Type 0
+IsChecked judging text lines out (Ok x) = ChecksIn judging text lines out (Ok x)
+IsChecked judging text lines out (Err (Input f)) = ⊥
+IsChecked judging text lines out (Err (Unread name)) = ⊥
+IsChecked judging text lines out (Err (Run f)) = ⊥
+IsChecked judging text lines out (Err (Explain f)) = ⊥
+IsChecked judging text lines out (Err (Trace f)) = ⊥
+IsChecked judging text lines out (Err (Check f)) = ChecksIn judging text lines out (Err f)
+IsChecked judging text lines out (Err (Print f)) = ⊥
 
 -- the same, if it ends so: nothing if the input gives no text
-abbrev pub IsCheckedBy : List ℕ → InputName → Option (List ℕ) → Output → Result (Unit {0}) TextFault → Type 0
-IsCheckedBy text schedule given out (Ok x) = ChecksGiven text (given_by schedule given) out (Ok x)
-IsCheckedBy text schedule given out (Err (Input f)) = IsFaultOfInput schedule given (Input f) × IsKept out
-IsCheckedBy text schedule given out (Err (Unread name)) = IsFaultOfInput schedule given (Unread name) × IsKept out
-IsCheckedBy text schedule given out (Err (Run f)) = ⊥
-IsCheckedBy text schedule given out (Err (Explain f)) = ⊥
-IsCheckedBy text schedule given out (Err (Trace f)) = ⊥
-IsCheckedBy text schedule given out (Err (Check f)) = ChecksGiven text (given_by schedule given) out (Err f)
-IsCheckedBy text schedule given out (Err (Print f)) = ⊥
+abbrev pub IsCheckedBy : Judging → List ℕ → InputName → Option (List ℕ) → Output → Result Findings TextFault → Type 0
+IsCheckedBy judging text schedule given out (Ok x) =
+    ChecksGiven judging text (schedule_limit schedule) (given_by schedule given) out (Ok x)
+IsCheckedBy judging text schedule given out (Err (Input f)) = IsFaultOfLong schedule given (Input f) × IsKept out
+IsCheckedBy judging text schedule given out (Err (Unread name)) =
+    IsFaultOfLong schedule given (Unread name) × IsKept out
+IsCheckedBy judging text schedule given out (Err (Run f)) = ⊥
+IsCheckedBy judging text schedule given out (Err (Explain f)) = ⊥
+IsCheckedBy judging text schedule given out (Err (Trace f)) = ⊥
+IsCheckedBy judging text schedule given out (Err (Check f)) =
+    ChecksGiven judging text (schedule_limit schedule) (given_by schedule given) out (Err f)
+IsCheckedBy judging text schedule given out (Err (Print f)) = ⊥
 
 -- what `run` read and what it wrote as its report, if it ends so: nothing if the input gives no text
 abbrev pub Executes : RunChoice → Option (List ℕ) → Output → Result Findings TextFault → Type 0
@@ -149,7 +158,7 @@ Executes r given out (Err (Check f)) = ⊥
 Executes r given out (Err (Print f)) = ⊥
 
 -- what `check` read and what it said, if it ends so: nothing if an input gives no text
-abbrev pub Follows : CheckChoice → Option (List ℕ) → Output → Result (Unit {0}) TextFault → Type 0
+abbrev pub Follows : CheckChoice → Option (List ℕ) → Output → Result Findings TextFault → Type 0
 Follows c given out (Ok x) = ChecksSchedule c given out (Ok x)
 Follows c given out (Err (Input f)) = IsFaultOfInputs c given (Input f) × IsKept out
 Follows c given out (Err (Unread name)) = IsFaultOfInputs c given (Unread name) × IsKept out
@@ -205,7 +214,7 @@ IsTraced t given out (Err (Trace f)) = TracesText t given out (Err f)
 IsTraced t given out (Err (Check f)) = ⊥
 IsTraced t given out (Err (Print f)) = ⊥
 
--- the status of a run that wrote its report: 4 if the report has a finding at which the status is to tell
+-- the status of a report that was written, or of an execution: 4 if there is a finding at which the status is to tell
 abbrev pub found_status : (fail_on found : Findings) → ℕ
 found_status fail_on found = if meet fail_on found then 4 else 0
 
@@ -257,13 +266,15 @@ EndsAs (subcommand.Explain input) given out err status =
 EndsAs (subcommand.Trace t) given out err status =
     (outcome : Result (Unit {0}) TextFault) × IsTraced t given out outcome × Tells no_finding err status outcome
 EndsAs (subcommand.Check c) given out err status =
-    (outcome : Result (Unit {0}) TextFault) × Follows c given out outcome × Tells no_finding err status outcome
+    (outcome : Result Findings TextFault) × Follows c given out outcome
+    × Tells (found_status c.fail_on) err status outcome
 EndsAs (subcommand.Print input) given out err status =
     (outcome : Result (Unit {0}) TextFault) × Prints input given out outcome × Tells no_finding err status outcome
 
 -- the words choose a subcommand, and the program ends as that does
 abbrev pub EndsChosen : List Text → Option (List ℕ) → Output → Output → ℕ → Type 0
-EndsChosen words given out err status = (chosen : Subcommand) × Chooses words chosen × EndsAs chosen given out err status
+EndsChosen words given out err status =
+    (chosen : Subcommand) × Chooses words chosen × EndsAs chosen given out err status
 
 -- clap refuses the words, they choose nothing, or memory ran out, and the program shows the text of that error
 abbrev pub EndsWords : List Text → Output → Output → ℕ → Type 0
@@ -280,6 +291,17 @@ Reports words given out status =
     × ((found : Findings) × RunsText r.options (given_by r.input given) out (Ok found)
     × (status ≡ found_status r.fail_on found))
 
+-- a schedule is an execution, and the status tells what its verdicts come to
+abbrev pub Judges : List Text → Option (List ℕ) → Output → ℕ → Type 0
+Judges words given out status =
+    (c : CheckChoice) × Chooses words (subcommand.Check c)
+    × ((found : Findings) × ChecksSchedule c given out (Ok found) × (status ≡ found_status c.fail_on found))
+
+-- what status 4 says: a report went out, or a schedule is an execution, and there is a finding at which the status is
+-- to tell
+abbrev pub IsFound : List Text → Option (List ℕ) → Output → Type 0
+IsFound words given out = Reports words given out 4 ⊎ Judges words given out 4
+
 -- a run was shown
 abbrev pub Traces : List Text → Option (List ℕ) → Output → Type 0
 Traces words given out =
@@ -292,12 +314,12 @@ ExplainsAs f words given out =
 
 -- what status 0 says: the report of the text that was read went out, and it has no finding at which the status is to
 -- tell; or nothing is wrong with the text; or its run was shown; or the schedule that was read is an execution of the
--- text's system; or the text went out laid out anew; or a text for which the words ask
+-- text's system, and has no such finding; or the text went out laid out anew; or a text for which the words ask
 abbrev pub IsDone : List Text → Option (List ℕ) → Output → Type 0
 IsDone words given out =
     Reports words given out 0
     ⊎ (ExplainsAs NothingWrong words given out
     ⊎ (Traces words given out
-    ⊎ (((c : CheckChoice) × Chooses words (subcommand.Check c) × ChecksSchedule c given out (Ok tt))
+    ⊎ (Judges words given out 0
     ⊎ (((input : InputName) × Chooses words (subcommand.Print input) × PrintsText (given_by input given) out (Ok tt))
     ⊎ (AsksForText words × ShowsText out)))))

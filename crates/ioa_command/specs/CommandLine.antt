@@ -1,5 +1,6 @@
 -- The words of the command line (profile): what clap is told of them, and what its matches choose.
-use Rattle.std.specs.Prelude.{◌≡◌, ◌⊎◌, ◌<◌, ◌^◌, ⊤, ℕ, true, if◌then◌else◌, List, [], ◌∷◌, Option, Some, None}
+use Rattle.std.specs.Prelude.{◌≡◌, ◌⊎◌, ◌<◌, ◌^◌, ⊤, ℕ, Bool, true, false, ◌||◌, if◌then◌else◌, List, [], ◌∷◌}
+use Rattle.std.specs.Prelude.{Option, Some, None}
 use Rattle.std.specs.Prelude.{codes, option_and_then, option_map, string_bytes}
 use Rattle.std.specs.Str.{bytes_eq}
 use Rattle.std.specs.Str.Parse.{IsNumeral, digits_value, without_leading_plus}
@@ -8,6 +9,7 @@ use Rattle.clap.specs.Simple.{App, new_app, new_rule, on_top, with_rule, with_su
 use Rattle.clap.specs.Faults.{fault_of}
 use Rattle.clap.specs.Kinds.{HasKind, IsAmong}
 use Rattle.clap.specs.Values.{kind_of}
+use Rattle.clap.specs.declared.builder.action.ArgAction.TheVariants.{SetTrue}
 use Rattle.clap.specs.declared.builder.value_parser.ValueParser.{ValueParser}
 use Rattle.clap.specs.declared.builder.value_parser.ValueParser.TheVariants.{Unsigned}
 use Rattle.clap.specs.declared.error.Error.{Error}
@@ -16,6 +18,8 @@ use Rattle.clap.specs.declared.error.kind.ErrorKind.TheVariants.{DisplayHelp, Di
 use Rattle.clap.specs.declared.error.kind.ErrorKind.TheVariants.{OutOfMemory, ValueValidation}
 use Rattle.ioa_record.specs.declared.options.TheConstants.{GREATEST_WORKERS, GREATEST_STEPS, GREATEST_ATTEMPTS}
 use Rattle.ioa_record.specs.declared.options.TheConstants.{DEFAULT_WORKERS}
+use Rattle.ioa_pipeline.specs.declared.judging.Judging.{Judging}
+use Rattle.ioa_pipeline.specs.declared.judging.Judging.TheVariants.{Unasked, Silent, Told}
 use Rattle.ioa_pipeline.specs.declared.tracing.Format.{Format}
 use Rattle.ioa_pipeline.specs.declared.tracing.Format.TheVariants as format
 use Rattle.ioa_pipeline.specs.declared.tracing.Format.TheVariants.{Json, States, Diagram, Sequence}
@@ -76,9 +80,19 @@ trace_app =
     (with_rule (with_rule (with_rule (new_app (codes "trace")) (word_rule (codes "file"))) steps_rule) attempts_rule)
     format_rule
 
--- `check FILE SCHEDULE`
+-- `--verdicts`
+abbrev pub verdicts_rule : Rule
+verdicts_rule =
+    record (new_rule (codes "verdicts")) { long = Some (codes "verdicts"); action = Some SetTrue }
+
+-- `check FILE SCHEDULE --verdicts --fail-on NAMES`
 abbrev pub check_app : App
-check_app = with_rule (with_rule (new_app (codes "check")) (word_rule (codes "file"))) (word_rule (codes "schedule"))
+check_app =
+    with_rule
+    (with_rule
+    (with_rule (with_rule (new_app (codes "check")) (word_rule (codes "file"))) (word_rule (codes "schedule")))
+    verdicts_rule)
+    fail_on_rule
 
 -- `print FILE`
 abbrev pub print_app : App
@@ -174,9 +188,29 @@ ReadsApart Standard None = ⊤
 ReadsApart Standard (Some (File name)) = ⊤
 ReadsApart Standard (Some Standard) = ⊥
 
+-- findings, if no ending is among them
+abbrev pub only_verdicts : Option Findings → Option Findings
+only_verdicts None = None
+only_verdicts (Some f) = if f.fault || f.spent then None else Some f
+
+-- the findings that a word names, if no ending is among them
+abbrev pub verdict_findings_given : Option Text → Option Findings
+verdict_findings_given word = only_verdicts (findings_given word)
+
+-- a flag is given: clap has the text `true` for it, and else `false`
+abbrev pub flag_given : Option Text → Bool
+flag_given None = false
+flag_given (Some text) = bytes_eq text (codes "true")
+
+-- what becomes of the invariants: the verdicts are told if they are asked for, and evaluated if the status is to tell
+abbrev pub judging_of : Bool → Findings → Judging
+judging_of asked fail_on = if asked then Told else (if fail_on.invariant then Silent else Unasked)
+
 -- what the matches of `check` choose
 pub record IsCheckOf (rows : List Row) (c : CheckChoice) : Type 0 where
   pub input : name_of c.input ≡ input_given (first_of (codes "file") rows)
+  pub fail_on : verdict_findings_given (first_of (codes "fail-on") rows) ≡ Some c.fail_on
+  pub judging : c.judging ≡ judging_of (flag_given (first_of (codes "verdicts") rows)) c.fail_on
   pub schedule : option_map name_of c.schedule ≡ option_map input_named (first_of (codes "schedule") rows)
   pub apart : ReadsApart c.input c.schedule
 

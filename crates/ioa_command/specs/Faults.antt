@@ -23,7 +23,7 @@ use Rattle.ioa_command.specs.declared.faults.TextFault.TheVariants.{Input, Unrea
 -- 1 if the input is refused, and 3 if memory or reading failed
 abbrev pub input_status : InputFault → ℕ
 input_status input.Read = 3
-input_status input.TooLong = 1
+input_status (input.TooLong limit) = 1
 input_status (input.BadCharacter offset) = 1
 input_status input.Memory = 3
 
@@ -46,7 +46,7 @@ check_status check.Write = 3
 -- the line of an input that gives no text: a read has `failed`, all else is `refused`
 abbrev pub input_line : InputFault → List ℕ
 input_line input.Read = codes "failed " ++ input_fault_text input.Read
-input_line input.TooLong = codes "refused " ++ input_fault_text input.TooLong
+input_line (input.TooLong limit) = codes "refused " ++ input_fault_text (input.TooLong limit)
 input_line (input.BadCharacter offset) = codes "refused " ++ input_fault_text (input.BadCharacter offset)
 input_line input.Memory = codes "refused " ++ input_fault_text input.Memory
 

@@ -3,7 +3,7 @@
 ghost use Rattle.std.specs.Prelude.{◌≡◌};
 ghost use Rattle.ioa_command.specs.declared.choice.ChoiceFault.TheVariants.{Memory};
 
-use ioa_pipeline::{Findings, Format, Options};
+use ioa_pipeline::{Findings, Format, Judging, Options};
 use std::alloc::AllocError;
 
 /// Where a text is read.
@@ -44,6 +44,10 @@ pub struct CheckChoice {
     pub input: InputName,
     /// Where the schedule is read, if it does not stand behind the text.
     pub schedule: Option<InputName>,
+    /// What becomes of the invariants.
+    pub judging: Judging,
+    /// The findings at each of which the status is to tell. No ending is among them, since a schedule has none.
+    pub fail_on: Findings,
 }
 
 /// What the program is asked to do.
@@ -85,6 +89,8 @@ pub(crate) enum WordsFault {
     Number,
     /// `--fail-on` has a name that is none of its three.
     FailOn,
+    /// `--fail-on` of `check` has another name than `invariant`.
+    FailOnVerdicts,
     /// `--format` has a name that is none of a format.
     Format,
     /// Text and schedule are both to be read from standard input.
@@ -98,6 +104,9 @@ impl WordsFault {
             WordsFault::Number => "a number is outside its range",
             WordsFault::FailOn => {
                 "--fail-on takes fault, spent and invariant: one of them, or several with commas between"
+            }
+            WordsFault::FailOnVerdicts => {
+                "--fail-on of `check` takes invariant, since a schedule has no endings"
             }
             WordsFault::Format => "--format takes text, json, itf, svg or mermaid",
             WordsFault::Twice => "only one of FILE and SCHEDULE can be standard input",

@@ -9,7 +9,7 @@ ghost use Rattle.ioa_monitor.specs.declared.findings.Findings.{Findings};
 ghost use Rattle.ioa_command.specs.declared.faults.TextFault.{TextFault};
 ghost use Rattle.ioa_command.specs.Command.{Ends, EndsAs, Executes, Follows, IsChecked, IsCheckedBy, IsDone, Prints};
 ghost use Rattle.ioa_command.specs.Command.{Tells};
-ghost use Rattle.ioa_command.specs.Command.{Reports, Shows, ShowsAsked, ShowsLine, ShowsWords, found_status};
+ghost use Rattle.ioa_command.specs.Command.{IsFound, Shows, ShowsAsked, ShowsLine, ShowsWords, found_status};
 ghost use Rattle.ioa_command.specs.Command.{no_finding, output};
 ghost use Rattle.ioa_command.specs.Command.{ExplainsAs, IsExplained, IsTraced, explained_status, memory_line};
 ghost use Rattle.ioa_explain.specs.declared.explaining.Finding.{Finding};
@@ -20,12 +20,12 @@ ghost use Rattle.ioa_command.specs.CommandLine.{words_status};
 use crate::choice::{CheckChoice, InputName, RunChoice, Subcommand, TraceChoice};
 use crate::fail_on::meet;
 use crate::faults::{FAILED, REFUSED, TextFault, fault_line, fault_status};
-use crate::inputs::{shown_name, text_of};
+use crate::inputs::{schedule_of, shown_name, text_of};
 use crate::words::options;
 use clap::Error;
 use clap::error::ErrorKind;
 use ioa_explain::{Finding, explain};
-use ioa_pipeline::{Findings, Gate, check_text, print_text, run_system, trace_text};
+use ioa_pipeline::{Findings, Gate, Judging, judge_text, print_text, run_system, trace_text};
 use ioa_streams::{Out, parts, put_all, schedule_part};
 use std::alloc::{AllocError, Global};
 use std::io::Read;
@@ -45,14 +45,14 @@ const FOUND: u8 = 4;
 /// The program (profile): `words` are those of the command line, its own name first, and choose what it does. `run`
 /// reads a text, runs its system by workers in this runtime, and writes the report. `explain` reads a text and tells
 /// what is wrong with it. `trace` reads a text, runs its system by one worker, and shows the run. `check` reads a text
-/// and a schedule, and says whether the schedule is an execution. `print` reads a text and writes it laid out anew. A
-/// text is read from the file that is named, else from `reader`. Returns the status: 0 if all was done, or if the help
-/// or the version for which the words ask was shown; 1 if the text or the schedule was refused; 2 if the words were
-/// refused; 3 if memory ran out, what several workers left could not be put together, or reading or writing failed; and
-/// 4 if the report was written and has what `--fail-on` names. If it is 1, 2 or 3, `err` says why, but where `explain`
-/// says it on `out`; a fault of `err` is ignored. If there is no memory for what it has to say, the status is 3 and a
-/// line says so. The gate is called between the steps of `run`'s workers, so who watches the program sees how far it
-/// has come.
+/// and a schedule, and says whether the schedule is an execution, with the verdicts along it if the words ask for them.
+/// `print` reads a text and writes it laid out anew. A text is read from the file that is named, else from `reader`.
+/// Returns the status: 0 if all was done, or if the help or the version for which the words ask was shown; 1 if the
+/// text or the schedule was refused; 2 if the words were refused; 3 if memory ran out, what several workers left could
+/// not be put together, or reading or writing failed; and 4 if the report was written or the schedule is an execution,
+/// and has what `--fail-on` names. If it is 1, 2 or 3, `err` says why, but where `explain` says it on `out`; a fault of
+/// `err` is ignored. If there is no memory for what it has to say, the status is 3 and a line says so. The gate is
+/// called between the steps of `run`'s workers, so who watches the program sees how far it has come.
 pub fn command<'a, R: Files + Threads + Wait + Sync, G: Gate + Sync, I: Read, O: Out, E: Out>(
     rt: &R,
     alloc: Global,
@@ -68,8 +68,8 @@ pub fn command<'a, R: Files + Threads + Wait + Sync, G: Gate + Sync, I: Read, O:
     // what the status says of the output
     ensures done { result ≡ 0 → IsDone (map (λ w. w.now) words.entry.now) (I.remaining reader.old)
         (output (O.bytes out.old) (O.bytes out.new) (O.failed out.new)) }
-    ensures found { result ≡ 4 → Reports (map (λ w. w.now) words.entry.now) (I.remaining reader.old)
-        (output (O.bytes out.old) (O.bytes out.new) (O.failed out.new)) 4 }
+    ensures found { result ≡ 4 → IsFound (map (λ w. w.now) words.entry.now) (I.remaining reader.old)
+        (output (O.bytes out.old) (O.bytes out.new) (O.failed out.new)) }
     ensures refused { (result ≡ 1) ⊎ (result ≡ 2) → Keeps (O.bytes out.old) (O.bytes out.new)
         ⊎ ExplainsAs Refused (map (λ w. w.now) words.entry.now) (I.remaining reader.old)
         (output (O.bytes out.old) (O.bytes out.new) (O.failed out.new)) }
@@ -210,7 +210,7 @@ fn show_run<R: Files + Threads + Wait + Sync, I: Read, O: Out, E: Out>(
     tell(alloc, &outcome, err)
 }
 
-/// Checks the lines of a schedule against a text, and tells of a fault.
+/// Checks the lines of a schedule against a text, and tells of a fault or of what was found.
 fn check_lines<R: Files, I: Read, O: Out, E: Out>(
     rt: &R,
     alloc: Global,
@@ -221,12 +221,16 @@ fn check_lines<R: Files, I: Read, O: Out, E: Out>(
 ) -> u8
     requires out { O.failed out.old ≡ false }
     requires err { E.failed err.old ≡ false }
-    ensures { (outcome : Result (Unit {0}) TextFault) × Follows choice.now (I.remaining reader.old)
+    ensures { (outcome : Result Findings TextFault) × Follows choice.now (I.remaining reader.old)
         (output (O.bytes out.old) (O.bytes out.new) (O.failed out.new)) outcome
-        × Tells no_finding (output (E.bytes err.old) (E.bytes err.new) (E.failed err.new)) result outcome }
+        × Tells (found_status choice.now.fail_on) (output (E.bytes err.old) (E.bytes err.new) (E.failed err.new))
+        result outcome }
 {
     let outcome = follow(rt, alloc, choice, reader, out);
-    tell(alloc, &outcome, err)
+    match &outcome {
+        Ok(found) => found_status(&choice.fail_on, found),
+        Err(fault) => tell_fault(alloc, fault, err),
+    }
 }
 
 /// Lays a text out anew, and tells of a fault.
@@ -342,44 +346,72 @@ fn follow<R: Files, I: Read, O: Out>(
     choice: &CheckChoice,
     reader: &mut I,
     out: &mut O,
-) -> Result<(), TextFault>
+) -> Result<Findings, TextFault>
     requires { O.failed out.old ≡ false }
     ensures { Follows choice.now (I.remaining reader.old)
         (output (O.bytes out.old) (O.bytes out.new) (O.failed out.new)) result }
 {
     let input = text_of(rt, alloc, &choice.input, reader)?;
     match &choice.schedule {
-        None => follow_parts(alloc, input.as_str(), out),
-        Some(schedule) => follow_apart(rt, alloc, input.as_str(), schedule, reader, out),
+        None => follow_parts(alloc, input.as_str(), choice.judging, out),
+        Some(schedule) => {
+            let judging = choice.judging;
+            follow_apart(rt, alloc, input.as_str(), schedule, judging, reader, out)
+        }
     }
 }
 
 /// Says whether the schedule behind a text is an execution of the text's system.
-fn follow_parts<O: Out>(alloc: Global, input: &str, out: &mut O) -> Result<(), TextFault>
+fn follow_parts<O: Out>(
+    alloc: Global,
+    input: &str,
+    judging: Judging,
+    out: &mut O,
+) -> Result<Findings, TextFault>
     requires { O.failed out.old ≡ false }
-    ensures { IsChecked (text_part input.now) (lines_part input.now)
+    ensures { IsChecked judging (text_part input.now) (lines_part input.now)
         (output (O.bytes out.old) (O.bytes out.new) (O.failed out.new)) result }
 {
     let (text, lines) = parts(input);
-    check_text(alloc, text, lines, out).map_err(TextFault::Check)
+    judge_lines(alloc, text, lines, judging, out)
+}
+
+/// Says whether lines are an execution of a text's system.
+#[tactic(auto, using(crate::proofs::Readings::judged_rules))]
+fn judge_lines<O: Out>(
+    alloc: Global,
+    text: &str,
+    lines: &str,
+    judging: Judging,
+    out: &mut O,
+) -> Result<Findings, TextFault>
+    requires { O.failed out.old ≡ false }
+    ensures { IsChecked judging text.now lines.now
+        (output (O.bytes out.old) (O.bytes out.new) (O.failed out.new)) result }
+{
+    match judge_text(alloc, text, lines, judging, out) {
+        Ok(found) => Ok(found),
+        Err(fault) => Err(TextFault::Check(fault)),
+    }
 }
 
 /// Reads a schedule, and says whether it is an execution of a text's system.
-#[tactic(auto, using(crate::proofs::Readings::checked_unread))]
+#[tactic(auto, using(crate::proofs::Readings::apart_rules))]
 fn follow_apart<R: Files, I: Read, O: Out>(
     rt: &R,
     alloc: Global,
     text: &str,
     schedule: &InputName,
+    judging: Judging,
     reader: &mut I,
     out: &mut O,
-) -> Result<(), TextFault>
+) -> Result<Findings, TextFault>
     requires { O.failed out.old ≡ false }
-    ensures { IsCheckedBy text.now schedule.now (I.remaining reader.old)
+    ensures { IsCheckedBy judging text.now schedule.now (I.remaining reader.old)
         (output (O.bytes out.old) (O.bytes out.new) (O.failed out.new)) result }
 {
-    let lines = text_of(rt, alloc, schedule, reader)?;
-    check_text(alloc, text, schedule_part(lines.as_str()), out).map_err(TextFault::Check)
+    let lines = schedule_of(rt, alloc, schedule, reader)?;
+    judge_lines(alloc, text, schedule_part(lines.as_str()), judging, out)
 }
 
 /// Reads a text and writes it laid out anew.

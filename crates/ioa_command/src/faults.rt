@@ -54,7 +54,7 @@ fn input_status(fault: &InputFault) -> u8
     ensures { result ≡ spec.input_status fault.now }
 {
     match fault {
-        InputFault::TooLong | InputFault::BadCharacter(_) => REFUSED,
+        InputFault::TooLong(_) | InputFault::BadCharacter(_) => REFUSED,
         InputFault::Read | InputFault::Memory => FAILED,
     }
 }
@@ -122,7 +122,7 @@ fn input_line(alloc: Global, fault: &InputFault) -> Result<String, AllocError>
 {
     match fault {
         InputFault::Read => format!(in alloc; "failed {fault}\n"),
-        InputFault::TooLong | InputFault::BadCharacter(_) | InputFault::Memory => {
+        InputFault::TooLong(_) | InputFault::BadCharacter(_) | InputFault::Memory => {
             format!(in alloc; "refused {fault}\n")
         }
     }

@@ -9,7 +9,7 @@ ghost use Rattle.clap.specs.declared.builder.command.Command.TheViews.{out-Comma
 ghost use Rattle.clap.specs.declared.builder.value_parser.ValueParser.TheVariants.{Unsigned};
 ghost use Rattle.ioa_command.specs.CommandLine.{number_rule, word_rule, workers_rule, steps_rule, attempts_rule};
 ghost use Rattle.ioa_command.specs.CommandLine.{check_app, explain_app, print_app, run_app, trace_app, program_app};
-ghost use Rattle.ioa_command.specs.CommandLine.{fail_on_rule, format_rule};
+ghost use Rattle.ioa_command.specs.CommandLine.{fail_on_rule, format_rule, verdicts_rule};
 ghost use Rattle.ioa_command.specs.CommandLine.{Chooses, IsCheckOf, IsChosenBy, IsErrorOf, IsNumberOf, IsRunOf};
 ghost use Rattle.ioa_command.specs.CommandLine.{IsTraceOf};
 ghost use Rattle.ioa_command.specs.CommandLine as spec;
@@ -23,9 +23,10 @@ use crate::fail_on::{findings_named, no_findings};
 use crate::formats::format_named;
 use clap::builder::ValueParser;
 use clap::error::ErrorKind;
-use clap::{Arg, ArgMatches, Command, Error, value_parser};
+use clap::{Arg, ArgAction, ArgMatches, Command, Error, value_parser};
 use ioa_pipeline::{
-    DEFAULT_WORKERS, Findings, Format, GREATEST_ATTEMPTS, GREATEST_STEPS, GREATEST_WORKERS, Options,
+    DEFAULT_WORKERS, Findings, Format, GREATEST_ATTEMPTS, GREATEST_STEPS, GREATEST_WORKERS,
+    Judging, Options,
 };
 use std::alloc::{AllocError, Global};
 
@@ -83,11 +84,13 @@ Examples:
 /// What is shown at the end of the help of `check`.
 const CHECK_INPUT: &str = "\
 The schedule is a report, of which its actions are read, or lines. A line has an action, and in front
-of it a number or none: send(7, 0, 1), receive(7, 0, 1), tick@2 or put({1, 2}, red)@0. If no SCHEDULE
-is named, the lines stand behind the text, after a line `---`; without that line there are none.
+of it a number or none: send(7, 0, 1), receive(7, 0, 1), tick@2 or put({1, 2}, red)@0. Behind an action
+whose effect chooses stand the values that it chose: toss@0 choose heads, 3. If no SCHEDULE is named,
+the lines stand behind the text, after a line `---`; without that line there are none.
 
-Example:
-  ioarun run examples/relay.ioa | ioarun check examples/relay.ioa -";
+Examples:
+  ioarun run examples/relay.ioa | ioarun check examples/relay.ioa -
+  ioarun run examples/two_holders.ioa | ioarun check --verdicts examples/two_holders.ioa -";
 
 /// What is shown at the end of the help of `print`.
 const PRINT_EXAMPLE: &str = "\
@@ -171,7 +174,10 @@ fn run<'a>(alloc: Global) -> Result<Command<'a>, AllocError>
         .after_help(RUN_EXAMPLE)
         .arg(file_word(alloc))?
         .arg(workers_option(alloc))?;
-    with_limits(alloc, command)?.arg(fail_on_option(alloc))
+    with_limits(alloc, command)?.arg(fail_on_option(
+        alloc,
+        "Which endings and verdicts make the status 4: fault, spent, invariant, or several with commas",
+    ))
 }
 
 /// A subcommand with `--steps N` and `--attempts N`.
@@ -212,11 +218,24 @@ fn trace<'a>(alloc: Global) -> Result<Command<'a>, AllocError>
 fn check<'a>(alloc: Global) -> Result<Command<'a>, AllocError>
     ensures { IfOk result (λ c. (app_of c ≡ check_app) × ((out-Command c).has_globals ≡ false)) }
 {
-    Command::new(alloc, "check")
+    let command = Command::new(alloc, "check")
         .about("Says whether a schedule is an execution of the system of a text")
         .after_help(CHECK_INPUT)
         .arg(file_word(alloc))?
-        .arg(schedule_word(alloc))
+        .arg(schedule_word(alloc))?;
+    with_verdicts(alloc, command)
+}
+
+/// A subcommand with `--verdicts` and `--fail-on NAMES`.
+fn with_verdicts<'a>(alloc: Global, command: Command<'a>) -> Result<Command<'a>, AllocError>
+    requires { (out-Command command).has_globals ≡ false }
+    ensures { IfOk result (λ c. (app_of c ≡ with_rule (with_rule (app_of command.entry) verdicts_rule) fail_on_rule)
+        × ((out-Command c).has_globals ≡ false)) }
+{
+    command.arg(verdicts_option(alloc))?.arg(fail_on_option(
+        alloc,
+        "Which verdicts make the status 4: invariant, one that does not hold",
+    ))
 }
 
 /// The subcommand `print`.
@@ -269,16 +288,25 @@ fn word<'a>(alloc: Global, id: &'a str, shown: &'a str) -> Arg<'a>
 }
 
 /// `--fail-on NAMES`.
-fn fail_on_option<'a>(alloc: Global) -> Arg<'a>
+fn fail_on_option<'a>(alloc: Global, help: &'a str) -> Arg<'a>
     ensures rule { rule_of result ≡ fail_on_rule }
     ensures global { result.global ≡ false }
 {
     Arg::new(alloc, "fail-on")
         .long("fail-on")
         .value_name("NAMES")
-        .help(
-            "Which endings and verdicts make the status 4: fault, spent, invariant, or several with commas",
-        )
+        .help(help)
+}
+
+/// `--verdicts`.
+fn verdicts_option<'a>(alloc: Global) -> Arg<'a>
+    ensures rule { rule_of result ≡ verdicts_rule }
+    ensures global { result.global ≡ false }
+{
+    Arg::new(alloc, "verdicts")
+        .long("verdicts")
+        .action(ArgAction::SetTrue)
+        .help("Tells the verdicts on the invariants along the schedule, if it is an execution")
 }
 
 /// `--workers N`.
@@ -444,13 +472,76 @@ fn findings_given(matches: &ArgMatches<'_>) -> Option<Findings>
 fn check_choice(alloc: Global, matches: &ArgMatches<'_>) -> Result<CheckChoice, ChoiceFault>
     ensures { Settles (IsCheckOf (rows_of (found_of matches.now))) result }
 {
+    let Some(fail_on) = verdict_findings_given(matches) else {
+        return Err(ChoiceFault::Nothing(WordsFault::FailOnVerdicts));
+    };
+    let judging = judging_given(matches, &fail_on);
     let input = input_given(alloc, matches)?;
     let schedule = schedule_given(alloc, matches)?;
     match (&input, &schedule) {
         (InputName::Standard, Some(InputName::Standard)) => {
             Err(ChoiceFault::Nothing(WordsFault::Twice))
         }
-        _ => Ok(CheckChoice { input, schedule }),
+        _ => Ok(CheckChoice {
+            input,
+            schedule,
+            judging,
+            fail_on,
+        }),
+    }
+}
+
+/// The findings that `--fail-on` names, if all its names are some, and none is of an ending.
+fn verdict_findings_given(matches: &ArgMatches<'_>) -> Option<Findings>
+    ensures { result ≡ spec.verdict_findings_given (first_of (codes "fail-on") (rows_of (found_of matches.now))) }
+{
+    only_verdicts(findings_given(matches))
+}
+
+/// These findings, if no ending is among them.
+fn only_verdicts(findings: Option<Findings>) -> Option<Findings>
+    ensures { result ≡ spec.only_verdicts findings }
+{
+    match findings {
+        None => None,
+        Some(findings) => {
+            if findings.fault || findings.spent {
+                None
+            } else {
+                Some(findings)
+            }
+        }
+    }
+}
+
+/// What becomes of the invariants, by `--verdicts` and by the findings at which the status is to tell.
+fn judging_given(matches: &ArgMatches<'_>, fail_on: &Findings) -> Judging
+    ensures { result ≡ spec.judging_of
+        (spec.flag_given (first_of (codes "verdicts") (rows_of (found_of matches.now)))) fail_on.now }
+{
+    judging_of(is_asked(matches, "verdicts"), fail_on)
+}
+
+/// What becomes of the invariants, if their verdicts are asked for, or a status that tells of them.
+fn judging_of(is_asked: bool, fail_on: &Findings) -> Judging
+    ensures { result ≡ spec.judging_of is_asked fail_on.now }
+{
+    if is_asked {
+        Judging::Told
+    } else if fail_on.invariant {
+        Judging::Silent
+    } else {
+        Judging::Unasked
+    }
+}
+
+/// Whether a flag is given: clap then has the text `true` for it.
+fn is_asked(matches: &ArgMatches<'_>, name: &str) -> bool
+    ensures { result ≡ spec.flag_given (first_of name.now (rows_of (found_of matches.now))) }
+{
+    match word_given(matches, name) {
+        None => false,
+        Some(text) => text == "true",
     }
 }
 

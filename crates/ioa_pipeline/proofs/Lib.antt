@@ -1,4 +1,6 @@
 -- the lemmas of this crate
+pub mod Judged
+pub mod JudgedSchedules
 pub mod Refusals
 pub mod Reported
 pub mod Shown

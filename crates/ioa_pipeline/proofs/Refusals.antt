@@ -1,8 +1,9 @@
 -- What faults of a text's system say, as faults of what is done with the system.
-use Rattle.std.proofs.Common.{◌≡◌, ◌⊎◌, ◌≤◌, inl, inr, ℕ, List, Result, Ok, Err, true, ap, length, refl}
+use Rattle.std.proofs.Common.{◌≡◌, ◌⊎◌, ◌≤◌, inl, inr, ℕ, List, Result, Ok, Err, ap, length, refl}
 use Rattle.std.specs.Prelude.{IfErr, IfOk}
 use Rattle.ioa_text_reader.specs.declared.fault.FrontFault.{FrontFault}
-use Rattle.ioa_text_reader.specs.Texts.{StandsInText, is_exact, length_limit}
+use Rattle.ioa_text_reader.specs.Texts.{length_limit}
+use Rattle.ioa_sections.specs.declared.fault.CheckFault.{CheckFault}
 use Rattle.ioa_held.specs.declared.finish.FinishFault.{FinishFault}
 use Rattle.ioa_held.specs.declared.finish.FinishFault.TheVariants as finish
 use Rattle.ioa_schedule_check.specs.declared.fault.ScheduleFault.{ScheduleFault}
@@ -40,18 +41,13 @@ run_calm workers system.Memory f is = rw is tt
 
 -- a fault of finishing with so many workers
 pub finish_calm : (workers : ℕ) (e : FinishFault) (f : RunFault) → f ≡ run_fault_of_finish e
-    → (workers ≡ 1 → e ≡ finish.Memory) → (e ≡ finish.SharesMissing → ⊥) → IsFaultOfWorkers workers f
-finish_calm workers finish.Foreign f is one there =
-    rw is ((λ w. let bad : finish.Foreign ≡ finish.Memory = one w in absurd (cc)), there)
-finish_calm workers finish.SharesMissing f is one there = absurd (there refl)
-finish_calm workers finish.Memory f is one there = rw is tt
-finish_calm workers finish.Unaccounted f is one there =
-    rw is ((λ w. let bad : finish.Unaccounted ≡ finish.Memory = one w in absurd (cc)), there)
-
--- if the text has a fault of reading that is always found, this is that fault, or want of memory
-abbrev IsExactFault : {F : Type 0} → (FrontFault → F) → F → F → List ℕ → Type 0
-IsExactFault of_front memory f text = (x : FrontFault) → is_exact x ≡ true → StandsInText x text →
-    (f ≡ of_front x) ⊎ ((f ≡ memory) × (length text ≤ length_limit))
+    → (workers ≡ 1 → e ≡ finish.Memory) → (e ≡ finish.SharesMissing → ⊥) → (e ≡ finish.Foreign → ⊥)
+    → IsFaultOfWorkers workers f
+finish_calm workers finish.Foreign f is one there own = absurd (own refl)
+finish_calm workers finish.SharesMissing f is one there own = absurd (there refl)
+finish_calm workers finish.Memory f is one there own = rw is tt
+finish_calm workers finish.Unaccounted f is one there own =
+    rw is ((λ w. let bad : finish.Unaccounted ≡ finish.Memory = one w in absurd (cc)), refl)
 
 -- a fault that is always found is passed on, whatever name it gets
 passed : {F : Type 0} (name : SystemFault → F) (text : List ℕ) (e : SystemFault) (x : FrontFault)
@@ -60,14 +56,28 @@ passed : {F : Type 0} (name : SystemFault → F) (text : List ℕ) (e : SystemFa
 passed name text e x (inl is) = inl (ap name is)
 passed name text e x (inr (is, short)) = inr (ap name is, short)
 
-pub run_exact : (text : List ℕ) (e : SystemFault) (f : RunFault) → IsExactFault system.Front system.Memory e text
-    → f ≡ run_fault_of_system e → IsExactFault run.Front run.Memory f text
-run_exact text e f h is = λ x found stands. rw is (passed run_fault_of_system text e x (h x found stands))
+refusal_passed : {F : Type 0} (name : SystemFault → F) (e : SystemFault) (x : CheckFault)
+    → (e ≡ system.Check x) ⊎ (e ≡ system.Memory)
+    → (name e ≡ name (system.Check x)) ⊎ (name e ≡ name system.Memory)
+refusal_passed name e x (inl is) = inl (ap name is)
+refusal_passed name e x (inr is) = inr (ap name is)
+
+pub run_exact : {S T : Type 0} (text : List ℕ) (e : SystemFault) (f : RunFault)
+    → IsExactBy {T = S} system.Front system.Check system.Memory (Err e) text → f ≡ run_fault_of_system e
+    → IsExactFor {T = T} (Err f) text
+run_exact text e f h is = record {
+  reading = λ x found stands. rw is (passed run_fault_of_system text e x (h.reading x found stands));
+  checking = λ p x short spelled refused.
+      rw is (refusal_passed run_fault_of_system e x (h.checking p x short spelled refused));
+}
 
 -- a text that has a system has no such fault
 pub run_free : {T S : Type 0} (text : List ℕ) (s : S) (r : Result T RunFault)
-    → IsExactBy {T = S} system.Front system.Memory (Ok s) text → IsExactFor r text
-run_free text s r h = λ x found stands. absurd (h x found stands)
+    → IsExactBy {T = S} system.Front system.Check system.Memory (Ok s) text → IsExactFor r text
+run_free text s r h = record {
+  reading = λ x found stands. absurd (h.reading x found stands);
+  checking = λ p x short spelled refused. absurd (h.checking p x short spelled refused);
+}
 
 -- as faults of the check of a schedule
 pub check_refused : (text : List ℕ) (e : SystemFault) (f : CheckScheduleFault) → IsFaultOfText e text
@@ -76,14 +86,21 @@ check_refused text (system.Front e) f h is = rw is h
 check_refused text (system.Check e) f h is = rw is h
 check_refused text system.Memory f h is = rw is tt
 
-pub check_exact : (text : List ℕ) (e : SystemFault) (f : CheckScheduleFault)
-    → IsExactFault system.Front system.Memory e text → f ≡ check_fault_of_system e
-    → IsExactFault check.Front check.Memory f text
-check_exact text e f h is = λ x found stands. rw is (passed check_fault_of_system text e x (h x found stands))
+pub check_exact : {S T : Type 0} (text : List ℕ) (e : SystemFault) (f : CheckScheduleFault)
+    → IsExactBy {T = S} system.Front system.Check system.Memory (Err e) text → f ≡ check_fault_of_system e
+    → IsExactForCheck {T = T} (Err f) text
+check_exact text e f h is = record {
+  reading = λ x found stands. rw is (passed check_fault_of_system text e x (h.reading x found stands));
+  checking = λ p x short spelled refused.
+      rw is (refusal_passed check_fault_of_system e x (h.checking p x short spelled refused));
+}
 
 pub check_free : {T S : Type 0} (text : List ℕ) (s : S) (r : Result T CheckScheduleFault)
-    → IsExactBy {T = S} system.Front system.Memory (Ok s) text → IsExactForCheck r text
-check_free text s r h = λ x found stands. absurd (h x found stands)
+    → IsExactBy {T = S} system.Front system.Check system.Memory (Ok s) text → IsExactForCheck r text
+check_free text s r h = record {
+  reading = λ x found stands. absurd (h.reading x found stands);
+  checking = λ p x short spelled refused. absurd (h.checking p x short spelled refused);
+}
 
 -- and a fault of the schedule
 pub lines_fault : (s : SystemParts) (lines : List ℕ) (e : ScheduleFault) (f : CheckScheduleFault)
@@ -151,14 +168,10 @@ pub outcome_execution : (text lines : List ℕ) (s : SystemParts) (r : Result (U
 outcome_execution text lines s (Ok x) d h = record { parts = s; described = d; execution = h }
 outcome_execution text lines s (Err f) d h = tt
 
-pub outcome_exact : {S : Type 0} (text : List ℕ) (s : S) (r : Result (Unit {0}) CheckScheduleFault)
-    → IsExactForCheck {T = S} (Ok s) text → IsExactForCheck r text
-outcome_exact text s r h = λ x found stands. absurd (h x found stands)
-
 -- what is made of the faults of a system
 pub ruleset run_rules = (run_refused, run_early, run_calm, run_exact, run_free)
 
 pub ruleset check_rules = (check_refused, check_exact, check_free)
 
 pub ruleset follow_rules =
-    (before_refused, before_early, outcome_refused, outcome_early, outcome_execution, outcome_exact)
+    (before_refused, before_early, outcome_refused, outcome_early, outcome_execution)

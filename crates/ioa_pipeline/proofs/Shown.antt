@@ -1,5 +1,5 @@
 -- How a run is shown, once it has left its record.
-use Rattle.std.proofs.Common.{◌≡◌, ℕ, Bool, false, List, Option, Result, Ok, Err, IfErr}
+use Rattle.std.proofs.Common.{◌≡◌, inl, inr, ℕ, Bool, false, List, Option, Result, Ok, Err, IfErr}
 use Rattle.std.specs.Io.KnownBytes.{Keeps}
 use Rattle.ioa_system.specs.Systems.{SystemParts}
 use Rattle.ioa_record.specs.Options.{PlainOptions}
@@ -23,32 +23,32 @@ use Rattle.ioa_pipeline.specs.Tracing.{IsRefusalOfTrace, ShowsLeft, ShowsRun, sh
 
 -- what a picture puts out is how its format is shown
 pub steps_shown : (s : SystemParts) (attempts : ℕ) (left : Record) (endings : List Ending) (old new : Option (List ℕ))
-    (failed : Bool) (r : Result (Unit {0}) ReportFault) → PutsText (steps_text s left.schedule) old new failed r
+    (failed : Bool) (r : Result (Unit {0}) ReportFault) → PutsText (steps_text s left.schedule endings) old new failed r
     → ShowsLeft s attempts left endings format.Json old new failed (shown r)
 steps_shown s attempts left endings old new failed (Ok x) h = h
-steps_shown s attempts left endings old new failed (Err report.Memory) h = tt
-steps_shown s attempts left endings old new failed (Err report.Write) h = tt
+steps_shown s attempts left endings old new failed (Err report.Memory) h = h
+steps_shown s attempts left endings old new failed (Err report.Write) h = h
 
 pub states_shown : (s : SystemParts) (attempts : ℕ) (left : Record) (endings : List Ending) (old new : Option (List ℕ))
-    (failed : Bool) (r : Result (Unit {0}) ReportFault) → PutsText (states_text s left.schedule) old new failed r
+    (failed : Bool) (r : Result (Unit {0}) ReportFault) → PutsText (states_text s left.schedule endings) old new failed r
     → ShowsLeft s attempts left endings format.States old new failed (shown r)
 states_shown s attempts left endings old new failed (Ok x) h = h
-states_shown s attempts left endings old new failed (Err report.Memory) h = tt
-states_shown s attempts left endings old new failed (Err report.Write) h = tt
+states_shown s attempts left endings old new failed (Err report.Memory) h = h
+states_shown s attempts left endings old new failed (Err report.Write) h = h
 
 pub diagram_shown : (s : SystemParts) (attempts : ℕ) (left : Record) (endings : List Ending) (old new : Option (List ℕ))
-    (failed : Bool) (r : Result (Unit {0}) ReportFault) → PutsWhole (diagram_of s left.schedule) old new failed r
+    (failed : Bool) (r : Result (Unit {0}) ReportFault) → PutsWhole (diagram_of s left.schedule endings) old new failed r
     → ShowsLeft s attempts left endings format.Diagram old new failed (shown r)
 diagram_shown s attempts left endings old new failed (Ok x) h = h
-diagram_shown s attempts left endings old new failed (Err report.Memory) h = tt
-diagram_shown s attempts left endings old new failed (Err report.Write) h = tt
+diagram_shown s attempts left endings old new failed (Err report.Memory) h = h
+diagram_shown s attempts left endings old new failed (Err report.Write) h = h
 
 pub sequence_shown : (s : SystemParts) (attempts : ℕ) (left : Record) (endings : List Ending)
-    (old new : Option (List ℕ)) (failed : Bool) (r : Result (Unit {0}) ReportFault) → PutsWhole (sequence_of s left.schedule) old new failed r
+    (old new : Option (List ℕ)) (failed : Bool) (r : Result (Unit {0}) ReportFault) → PutsWhole (sequence_of s left.schedule endings) old new failed r
     → ShowsLeft s attempts left endings format.Sequence old new failed (shown r)
 sequence_shown s attempts left endings old new failed (Ok x) h = h
-sequence_shown s attempts left endings old new failed (Err report.Memory) h = tt
-sequence_shown s attempts left endings old new failed (Err report.Write) h = tt
+sequence_shown s attempts left endings old new failed (Err report.Memory) h = h
+sequence_shown s attempts left endings old new failed (Err report.Write) h = h
 
 -- a run that is shown is that of the text
 pub run_shown : (text : List ℕ) (options : PlainOptions) (s : SystemParts) (left : Record) (endings : List Ending)
@@ -60,8 +60,10 @@ run_shown text options s left endings f old new failed (Ok x) is h =
 run_shown text options s left endings f old new failed (Err (Run (run.Front e))) is h = absurd h
 run_shown text options s left endings f old new failed (Err (Run (run.Check e))) is h = absurd h
 run_shown text options s left endings f old new failed (Err (Run (run.Finish e))) is h = absurd h
-run_shown text options s left endings f old new failed (Err (Run run.Memory)) is h = tt
-run_shown text options s left endings f old new failed (Err (Run run.Write)) is h = tt
+run_shown text options s left endings f old new failed (Err (Run run.Memory)) is h =
+    inr (record { parts = s; left = left; endings = endings; run = is; begun = h })
+run_shown text options s left endings f old new failed (Err (Run run.Write)) is h =
+    record { parts = s; left = left; endings = endings; run = is; begun = h }
 run_shown text options s left endings f old new failed (Err Differs) is h = tt
 
 -- and its faults say nothing of the text
@@ -83,7 +85,7 @@ pub early_shown : (text : List ℕ) (options : PlainOptions) (f : Format) (old n
 early_shown text options f old new failed (run.Front e) early well kept = (well, kept)
 early_shown text options f old new failed (run.Check e) early well kept = (well, kept)
 early_shown text options f old new failed (run.Finish e) early well kept = (well, kept)
-early_shown text options f old new failed run.Memory early well kept = tt
+early_shown text options f old new failed run.Memory early well kept = inl kept
 early_shown text options f old new failed run.Write early well kept = absurd early
 
 pub ruleset pictures = (steps_shown, states_shown, diagram_shown, sequence_shown)

@@ -49,9 +49,9 @@ IsFaultOfCheck (Schedule f) text lines = (f ≡ schedule.Memory → ⊥) × IsFa
 IsFaultOfCheck Memory text lines = ⊤
 IsFaultOfCheck Write text lines = ⊤
 
--- a fault of reading that is always found is not passed over
+-- no fault of the text that is always found is passed over
 abbrev pub IsExactForCheck : {T : Type 0} → Result T CheckScheduleFault → List ℕ → Type 0
-IsExactForCheck result text = IsExactBy Front Memory result text
+IsExactForCheck result text = IsExactBy Front Check Memory result text
 
 -- a fault of the text alone
 abbrev pub IsFaultBefore : CheckScheduleFault → List ℕ → Type 0

@@ -1,5 +1,5 @@
 -- Runs that are shown step by step, or as pictures (profile).
-use Rattle.std.specs.Prelude.{◌≡◌, ⊤, ℕ, Bool, false, List, [], Option, Result, Ok, Err, codes}
+use Rattle.std.specs.Prelude.{◌≡◌, ◌⊎◌, ⊤, ℕ, Bool, false, List, [], Option, Result, Ok, Err, codes}
 use Rattle.std.specs.Io.KnownBytes.{Keeps, Appends}
 use Rattle.ioa_streams.specs.declared.output.OutFailed.{OutFailed}
 use Rattle.ioa_system.specs.Systems.{SystemParts}
@@ -23,15 +23,6 @@ use Rattle.ioa_pipeline.specs.declared.tracing.Format.{Format}
 use Rattle.ioa_pipeline.specs.declared.tracing.Format.TheVariants as format
 use Rattle.ioa_pipeline.specs.declared.tracing.TraceFault.{TraceFault}
 use Rattle.ioa_pipeline.specs.declared.tracing.TraceFault.TheVariants.{Run, Differs}
-
--- a fault that can come when something went out
-abbrev pub IsLate : TraceFault → Type 0
-IsLate (Run (run.Front f)) = ⊥
-IsLate (Run (run.Check f)) = ⊥
-IsLate (Run (run.Finish f)) = ⊥
-IsLate (Run run.Memory) = ⊤
-IsLate (Run run.Write) = ⊤
-IsLate Differs = ⊤
 
 -- who tells a run as text, by these names of constants, before anything is told: it writes behind what went out before
 abbrev pub fresh_teller : List (List ℕ) → Option (List ℕ) → ℕ → PlainTeller
@@ -65,23 +56,46 @@ shown (Ok x) = Ok tt
 shown (Err report.Memory) = Err (Run run.Memory)
 shown (Err report.Write) = Err (Run run.Write)
 
--- what went out whole of a run in a format: a telling of it, or the text that its schedule determines
+-- what went out whole of a run in a format: a telling of it, or the text that its schedule and its endings determine
 abbrev pub IsShown : Format → SystemParts → ℕ → Record → List Ending → (old new : Option (List ℕ)) → Bool → Type 0
 IsShown format.Text s attempts left endings old new failed = PutsTelling s attempts left endings old new failed
 IsShown format.Json s attempts left endings old new failed =
-    PutsText (steps_text s left.schedule) old new failed (Ok tt)
+    PutsText (steps_text s left.schedule endings) old new failed (Ok tt)
 IsShown format.States s attempts left endings old new failed =
-    PutsText (states_text s left.schedule) old new failed (Ok tt)
+    PutsText (states_text s left.schedule endings) old new failed (Ok tt)
 IsShown format.Diagram s attempts left endings old new failed =
-    PutsWhole (diagram_of s left.schedule) old new failed (Ok tt)
+    PutsWhole (diagram_of s left.schedule endings) old new failed (Ok tt)
 IsShown format.Sequence s attempts left endings old new failed =
-    PutsWhole (sequence_of s left.schedule) old new failed (Ok tt)
+    PutsWhole (sequence_of s left.schedule endings) old new failed (Ok tt)
 
--- how a run that left this is shown, in which each node had so many attempts: a fault comes late
+-- what went out of a run in a format, of which putting it out had a fault; of a telling nothing is said
+abbrev pub IsPartOf : Format → SystemParts → Record → List Ending → (old new : Option (List ℕ)) → Bool → ReportFault
+    → Type 0
+IsPartOf format.Text s left endings old new failed e = ⊤
+IsPartOf format.Json s left endings old new failed e =
+    PutsText (steps_text s left.schedule endings) old new failed (Err e)
+IsPartOf format.States s left endings old new failed e =
+    PutsText (states_text s left.schedule endings) old new failed (Err e)
+IsPartOf format.Diagram s left endings old new failed e =
+    PutsWhole (diagram_of s left.schedule endings) old new failed (Err e)
+IsPartOf format.Sequence s left endings old new failed e =
+    PutsWhole (sequence_of s left.schedule endings) old new failed (Err e)
+
+-- the same by the fault of the whole, which is one that can come when something went out
+abbrev pub IsBegun : Format → SystemParts → Record → List Ending → (old new : Option (List ℕ)) → Bool → TraceFault
+    → Type 0
+IsBegun f s left endings old new failed (Run (run.Front e)) = ⊥
+IsBegun f s left endings old new failed (Run (run.Check e)) = ⊥
+IsBegun f s left endings old new failed (Run (run.Finish e)) = ⊥
+IsBegun f s left endings old new failed (Run run.Memory) = IsPartOf f s left endings old new failed report.Memory
+IsBegun f s left endings old new failed (Run run.Write) = IsPartOf f s left endings old new failed report.Write
+IsBegun f s left endings old new failed Differs = ⊤
+
+-- how a run that left this is shown, in which each node had so many attempts
 abbrev pub ShowsLeft : SystemParts → ℕ → Record → List Ending → Format → (old new : Option (List ℕ)) → Bool
     → Result (Unit {0}) TraceFault → Type 0
 ShowsLeft s attempts left endings f old new failed (Ok x) = IsShown f s attempts left endings old new failed
-ShowsLeft s attempts left endings f old new failed (Err e) = IsLate e
+ShowsLeft s attempts left endings f old new failed (Err e) = IsBegun f s left endings old new failed e
 
 -- a run of a system that the text describes, with these options, and how it is shown
 pub record IsRunShown (text : List ℕ) (options : PlainOptions) (f : Format) (old new : Option (List ℕ)) (failed : Bool)
@@ -92,15 +106,27 @@ pub record IsRunShown (text : List ℕ) (options : PlainOptions) (f : Format) (o
   pub run : IsLeftBy text options parts left endings
   pub shown : IsShown f parts options.attempts left endings old new failed
 
--- the run of a text was shown; before any other fault than a late one nothing was written
+-- a run of a system that the text describes, with these options, and what went out of it before a fault
+pub record IsRunBegun (text : List ℕ) (options : PlainOptions) (f : Format) (old new : Option (List ℕ)) (failed : Bool)
+    (e : TraceFault) : Type 0 where
+  pub parts : SystemParts
+  pub left : Record
+  pub endings : List Ending
+  pub run : IsLeftBy text options parts left endings
+  pub begun : IsBegun f parts left endings old new failed e
+
+-- the run of a text was shown; before a fault that the text or the run has nothing was written, nor if memory ran out
+-- before the run was over; and else what a fault left
 abbrev pub ShowsRun : List ℕ → PlainOptions → Format → (old new : Option (List ℕ)) → Bool
     → Result (Unit {0}) TraceFault → Type 0
 ShowsRun text options f old new failed (Ok x) = IsRunShown text options f old new failed
 ShowsRun text options f old new failed (Err (Run (run.Front e))) = (failed ≡ false) × Keeps old new
 ShowsRun text options f old new failed (Err (Run (run.Check e))) = (failed ≡ false) × Keeps old new
 ShowsRun text options f old new failed (Err (Run (run.Finish e))) = (failed ≡ false) × Keeps old new
-ShowsRun text options f old new failed (Err (Run run.Memory)) = ⊤
-ShowsRun text options f old new failed (Err (Run run.Write)) = ⊤
+ShowsRun text options f old new failed (Err (Run run.Memory)) =
+    Keeps old new ⊎ IsRunBegun text options f old new failed (Run run.Memory)
+ShowsRun text options f old new failed (Err (Run run.Write)) =
+    IsRunBegun text options f old new failed (Run run.Write)
 ShowsRun text options f old new failed (Err Differs) = ⊤
 
 -- what a fault says of the text: that of the run, if it is one

@@ -63,11 +63,12 @@ run_fault_of_finish finish.SharesMissing = Finish finish.SharesMissing
 run_fault_of_finish finish.Memory = Memory
 run_fault_of_finish finish.Unaccounted = Finish finish.Unaccounted
 
--- a fault that a run by so many workers can have: one worker alone has none of finishing, and no share is ever missing
+-- a fault that a run by so many workers can have: one worker alone has none of finishing, and several have only one,
+-- that the receipts do not account for the log
 abbrev pub IsFaultOfWorkers : ℕ → RunFault → Type 0
 IsFaultOfWorkers workers (Front f) = ⊤
 IsFaultOfWorkers workers (Check f) = ⊤
-IsFaultOfWorkers workers (Finish f) = (workers ≡ 1 → ⊥) × (f ≡ finish.SharesMissing → ⊥)
+IsFaultOfWorkers workers (Finish f) = (workers ≡ 1 → ⊥) × (f ≡ finish.Unaccounted)
 IsFaultOfWorkers workers Memory = ⊤
 IsFaultOfWorkers workers Write = ⊤
 
@@ -80,9 +81,9 @@ IsRefusalOf (Finish f) text = f ≡ finish.Memory → ⊥
 IsRefusalOf Memory text = ⊤
 IsRefusalOf Write text = ⊤
 
--- a fault of reading that is always found is not passed over
+-- no fault of the text that is always found is passed over
 abbrev pub IsExactFor : {T : Type 0} → Result T RunFault → List ℕ → Type 0
-IsExactFor result text = IsExactBy Front Memory result text
+IsExactFor result text = IsExactBy Front Check Memory result text
 
 -- a fault as text: its number and its name, then its offset or its index if it has one
 abbrev pub run_fault_text : RunFault → List ℕ

@@ -3,7 +3,7 @@
 ghost use Rattle.std.specs.Prelude.{◌≡◌, IfErr, IfOk};
 ghost use Rattle.std.specs.Arc.{arc_value};
 ghost use Rattle.ioa_pipeline.specs.Described.{IsDescribed, IsExactBy, IsFaultOfText};
-ghost use Rattle.ioa_pipeline.specs.declared.described.SystemFault.TheVariants.{Front, Memory};
+ghost use Rattle.ioa_pipeline.specs.declared.described.SystemFault.TheVariants.{Front, Check, Memory};
 
 use ioa_check::check;
 use ioa_sections::CheckFault;
@@ -69,10 +69,11 @@ impl From<CheckFault> for SystemFault {
 }
 
 /// The system that a text describes.
+#[tactic(auto, using(crate::proofs::Judged::rules_of_text))]
 pub(crate) fn system_of(alloc: Global, text: &str) -> Result<Arc<System>, SystemFault>
     ensures described { IfOk result (λ s. IsDescribed text.now (arc_value s)) }
     ensures refused { IfErr result (λ f. IsFaultOfText f text.now) }
-    ensures exact { IsExactBy Front Memory result text.now }
+    ensures exact { IsExactBy Front Check Memory result text.now }
 {
     let source = parse(alloc, text)?;
     let system = check(alloc, source.text())?;

@@ -8,6 +8,7 @@
 #![tactic(auto)]
 
 mod described;
+mod judging;
 mod printing;
 mod schedule_check;
 mod tracing;
@@ -19,6 +20,7 @@ pub use ioa_record::{
     DEFAULT_ATTEMPTS, DEFAULT_STEPS, DEFAULT_WORKERS, GREATEST_ATTEMPTS, GREATEST_STEPS,
     GREATEST_WORKERS, Options,
 };
+pub use judging::{Judging, judge_text};
 pub use printing::{PrintFault, print_text};
 pub use schedule_check::{CheckScheduleFault, check_text};
 pub use tracing::{Format, TraceFault, trace_text};

@@ -19,7 +19,7 @@ use std::sync::Arc;
 use thiserror::Error;
 
 /// What is said of an execution.
-const EXECUTION: &str = "execution\n";
+pub(crate) const EXECUTION: &str = "execution\n";
 
 /// Why a schedule is not said to be an execution.
 #[derive(Debug, Drop, Error)]
@@ -86,6 +86,7 @@ impl From<ScheduleFault> for CheckScheduleFault {
 /// Says `execution` if the lines of a schedule are an execution of the system that a text describes; each line has one
 /// action, in the form of a report. The text is read and checked first, then all lines are read, and only then is a
 /// step that is none refused.
+#[tactic(auto, using(crate::proofs::Judged::handed_on))]
 pub fn check_text<O: Out>(
     alloc: Global,
     text: &str,
@@ -106,7 +107,7 @@ pub fn check_text<O: Out>(
 }
 
 /// Whether the lines are an execution of the system that the text describes, or why not.
-#[tactic(auto, using(crate::proofs::Refusals::follow_rules))]
+#[tactic(auto, using(crate::proofs::Refusals::follow_rules, crate::proofs::Judged::handed_on))]
 fn follow(alloc: Global, text: &str, lines: &str) -> Result<(), CheckScheduleFault>
     ensures execution { IfOk result (λ _. IsExecutionOfText text.now lines.now) }
     ensures refused { IfErr result (λ f. IsFaultOfCheck f text.now lines.now) }
@@ -121,7 +122,7 @@ fn follow(alloc: Global, text: &str, lines: &str) -> Result<(), CheckScheduleFau
 
 /// The system that a text describes, or why no schedule of it is checked.
 #[tactic(auto, using(crate::proofs::Refusals::check_rules))]
-fn system_to_check(alloc: Global, text: &str) -> Result<Arc<System>, CheckScheduleFault>
+pub(crate) fn system_to_check(alloc: Global, text: &str) -> Result<Arc<System>, CheckScheduleFault>
     ensures described { IfOk result (λ s. IsDescribed text.now (arc_value s)) }
     ensures refused { IfErr result (λ f. IsFaultBefore f text.now) }
     ensures exact { IsExactForCheck result text.now }

@@ -74,7 +74,7 @@ impl From<RunFault> for TraceFault {
 
 /// Runs the system that a text describes, with these options, and shows the run in a format. With the options of one
 /// worker it is the run that [`run_system`](crate::run_system) reports. `Memory` (3) may come when a beginning went
-/// out.
+/// out; but of a picture, as SVG or for Mermaid, nothing did then.
 #[tactic(auto, using(crate::proofs::Shown::runs))]
 pub fn trace_text<R: Threads + Wait + Sync, O: Out>(
     rt: &R,
@@ -110,10 +110,10 @@ fn show<O: Out>(
 {
     match format {
         Format::Text => tell_as_text(alloc, system, options, run_record, endings, out),
-        Format::Json => shown(json(alloc, system, run_record, out)),
-        Format::States => shown(itf(alloc, system, run_record, out)),
-        Format::Diagram => shown(svg(alloc, system, run_record, out)),
-        Format::Sequence => shown(mermaid(alloc, system, run_record, out)),
+        Format::Json => shown(json(alloc, system, run_record, endings, out)),
+        Format::States => shown(itf(alloc, system, run_record, endings, out)),
+        Format::Diagram => shown(svg(alloc, system, run_record, endings, out)),
+        Format::Sequence => shown(mermaid(alloc, system, run_record, endings, out)),
     }
 }
 

@@ -31,8 +31,8 @@ pub enum RunFault {
     Front(FrontFault),
     /// Numbers 20 to 34: the source describes no system.
     Check(CheckFault),
-    /// `Foreign` (55) or `Unaccounted` (56): what several workers left could not be put together. `SharesMissing` (57)
-    /// does not come.
+    /// `Unaccounted` (56): what several workers left could not be put together. `Foreign` (55) and `SharesMissing` (57)
+    /// do not come.
     Finish(FinishFault),
     /// `Memory` (3): memory ran out.
     Memory,
@@ -90,7 +90,7 @@ impl From<FinishFault> for RunFault {
 /// the report's endings and verdicts come to. With one worker the run is on the calling thread; with several each has a
 /// thread of its own, and all of them have ended when this returns. The gate is called between the steps of the
 /// workers.
-#[tactic(auto, using(crate::proofs::Reported::late, crate::proofs::Reported::calm))]
+#[tactic(auto, using(crate::proofs::Reported::late, crate::proofs::Reported::calm, crate::proofs::Judged::handed_on))]
 pub fn run_system<R: Threads + Wait + Sync, G: Gate + Sync, O: Out>(
     rt: &R,
     alloc: Global,
@@ -104,7 +104,7 @@ pub fn run_system<R: Threads + Wait + Sync, G: Gate + Sync, O: Out>(
         (O.bytes out.old) (O.bytes out.new) (O.failed out.new) result }
     ensures refused { IfErr result (λ f. IsRefusalOf f text.now) }
     ensures exact { IsExactFor result text.now }
-    // with one worker no fault is of finishing, and with any number of them no share is missing (57)
+    // with one worker no fault is of finishing, and with several only that receipts do not account for the log (56)
     ensures alone { IfErr result (λ f. IsFaultOfWorkers options.now.workers f) }
 {
     let (system, record, endings) = run_of(rt, alloc, text, options, gate)?;
@@ -135,7 +135,7 @@ fn write_report<O: Out>(
 }
 
 /// The system that a text describes, what a run of it left, and how its nodes ended.
-#[tactic(auto, using(crate::proofs::Refusals::finish_calm))]
+#[tactic(auto, using(crate::proofs::Refusals::finish_calm, crate::proofs::Judged::handed_on))]
 pub(crate) fn run_of<R: Threads + Wait + Sync, G: Gate + Sync>(
     rt: &R,
     alloc: Global,
