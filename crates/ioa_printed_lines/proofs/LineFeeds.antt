@@ -1,5 +1,5 @@
 -- What is written in one line has no line feed in it.
-use Rattle.std.proofs.Common.{◌≡◌, ℕ, suc, ◌≤◌, Bool, true, false, not, ◌==◌, List, [], ◌∷◌, ◌++◌, refl, arith, pos, negsuc, decimal}
+use Rattle.std.proofs.Common.{◌≡◌, ℕ, suc, ◌^◌, ◌<◌, Bool, true, false, not, ◌==◌, List, [], ◌∷◌, ◌++◌, refl, arith, pos, negsuc, decimal}
 use Rattle.std.specs.List.{list_all, AllByRecursion}
 use Rattle.std.specs.Char.{is_ascii_digit}
 use Rattle.std.proofs.lemmas.Bool.{and_parts}
@@ -13,7 +13,7 @@ use Rattle.ioa_tokens.specs.declared.token.Token.{Token}
 use Rattle.ioa_tokens.specs.declared.token.Token.TheVariants as token
 use Rattle.ioa_tokens.specs.declared.written.Gap.{Gap}
 use Rattle.ioa_tokens.specs.declared.written.Gap.TheVariants as gap
-use Rattle.ioa_tokens.specs.Lexeme.{is_in_word, greatest_number}
+use Rattle.ioa_tokens.specs.Lexeme.{is_in_word}
 use Rattle.ioa_tokens.specs.LineTokens.{is_minus}
 use Rattle.ioa_tokens.specs.Tables.{mark_text, left_out_text, signs, reserved, left_out_words}
 use Rattle.ioa_tokens.specs.Written.{gap_text}
@@ -46,9 +46,9 @@ not_other : (c : ℕ) → not (c == 10) ≡ true → (c == 10) ≡ false
 not_other c passes = grind (arith, nat_tests)
 
 -- a number
-pub decimal_line : (n : ℕ) → n ≤ suc greatest_number → IsOneLine (decimal n)
+pub decimal_line : (n : ℕ) → n < 2 ^ 64 → IsOneLine (decimal n)
 decimal_line n low =
-    let numeral = decimal_is_IsNumeral n (omega arith) in
+    let numeral = decimal_is_IsNumeral n low in
     other_characters is_ascii_digit (decimal n) digit_other (digits_by_code (decimal n) numeral.0.1)
 
 -- a mark, and a left-out word

@@ -82,8 +82,11 @@ line_read s k e is low may =
 line_of_line : (names : List (List ℕ)) (k : ℕ) (e : PlainEntry) → AreConstantNames names → k ≤ greatest_number → IsPrintableEntry (length names) e → IsOneLine (line_of names k e)
 line_of_line names k e are low is = subst IsOneLine (line_written names k e) (line_line false (line_pieces names k e) (line_good names k e are low is))
 
+pub line_of_entry : (s : SystemParts) (k : ℕ) (e : PlainEntry) → IsTextSystem s → k ≤ greatest_number → MayTake s e → IsOneLine (line_of s.names k e)
+line_of_entry s k e is low may = line_of_line s.names k e is.names low (entry_printable s e is may)
+
 -- the lines of several entries
-one_more : (names : List (List ℕ)) (k : ℕ) (e : PlainEntry) (more : List ℕ) → (decimal k ++ (codes " " ++ (entry_text names e.action e.chosen ++ codes "\n"))) ++ more ≡ line_of names k e ++ 10 ∷ more
+pub one_more : (names : List (List ℕ)) (k : ℕ) (e : PlainEntry) (more : List ℕ) → (decimal k ++ (codes " " ++ (entry_text names e.action e.chosen ++ codes "\n"))) ++ more ≡ line_of names k e ++ 10 ∷ more
 unfolding line_of
 one_more names k e more = line_joined (decimal k) (entry_text names e.action e.chosen) more
   where
@@ -91,7 +94,7 @@ one_more names k e more = line_joined (decimal k) (entry_text names e.action e.c
     line_joined number text more = simp append_assoc
 
 -- an empty line has no token
-empty_cut : line_tokens [] ≡ Ok []
+pub empty_cut : line_tokens [] ≡ Ok []
 unfolding line_tokens
 empty_cut = refl
 
@@ -100,7 +103,7 @@ lines_read s k [] is all low = blank empty_cut no_line
 lines_read s k (e ∷ entries) is all low =
     let line = line_of s.names k e in
     let more = printed_lines s.names (k + 1) entries in
-    let one : IsOneLine line = line_of_line s.names k e is.names (omega arith) (entry_printable s e is all.0) in
+    let one : IsOneLine line = line_of_entry s k e is (omega arith) all.0 in
     let split : slice_split (λ b. b == 10) (printed_lines s.names k (e ∷ entries)) ≡ line ∷ slice_split (λ b. b == 10) more =
     ap (slice_split (λ b. b == 10)) (one_more s.names k e more)
     ∙ slice_split_at (λ b. b == 10) line 10 more (All-from_recursion (λ c. (c == 10) ≡ false) line one) refl in

@@ -13,6 +13,8 @@ use Rattle.ioa_operators.specs.Shapes.{sequences, sets, maps, no_shapes, shape}
 use Rattle.ioa_actions.specs.ActionParts.{action_arguments, send_name, receive_name}
 use Rattle.ioa_actions.specs.declared.action.Action.{Action}
 use Rattle.ioa_actions.specs.declared.action.Action.TheVariants.{Send, Receive, Local, Stimulus}
+use Rattle.ioa_source.specs.PlainText.{const, named}
+use Rattle.ioa_source.specs.Sides.{CheckedParameter, CheckedVariable}
 use Rattle.ioa_system.specs.Parts.{Parts, PlainRule}
 use Rattle.ioa_system.specs.Systems.{SystemParts}
 use Rattle.ioa_transitions.specs.Entries.{PlainEntry}
@@ -41,17 +43,28 @@ abbrev mutual
   AreTextShapes many no_shapes = Unit {0}
   AreTextShapes many (shape s ss) = IsTextShape many s × AreTextShapes many ss
 
+-- a parameter of an entry is a constant, or has a shape of its text
+abbrev pub IsTextParameter : ℕ → CheckedParameter → Type 0
+IsTextParameter many (const t) = Unit {0}
+IsTextParameter many (named d) = IsTextShape many d.shape
+
 -- a rule has a word for its name, and shapes of its text
 pub record IsTextRule (many : ℕ) (r : PlainRule) : Type 0 where
   pub name : IsName r.entry.name
+  pub parameters : AllByRecursion (IsTextParameter many) r.entry.parameters
   pub shapes : AllByRecursion (IsTextShape many) r.shapes
 
--- a program is on a node with a number, and has such rules
+-- a state variable has a shape of its text
+abbrev pub IsTextVariable : ℕ → CheckedVariable → Type 0
+IsTextVariable many x = IsTextShape many x.declared.shape
+
+-- a program is on a node with a number, and has such rules and variables
 pub record IsTextProgram (many : ℕ) (p : Parts) : Type 0 where
   pub number_of : ℕ
   pub node : p.node ≡ pos number_of
   pub low : number_of ≤ greatest_number
   pub rules : AllByRecursion (IsTextRule many) p.automaton.rules
+  pub variables : AllByRecursion (IsTextVariable many) p.automaton.variables
 
 -- a system of such programs, whose constants have words for names, none of them twice
 pub record IsTextSystem (s : SystemParts) : Type 0 where

@@ -1,3 +1,14 @@
 pub mod TakenEntries
 pub mod Schedules
+pub mod LineTexts
+pub mod CutLines
+pub mod WholeReports
 pub mod PrintedRuns
+pub mod Traces
+pub mod KeptParts
+pub mod ToldValues
+pub mod ToldSchedules
+pub mod ToldStates
+pub mod ToldEnds
+pub mod Told
+pub mod ToldRuns

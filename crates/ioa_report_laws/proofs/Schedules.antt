@@ -31,7 +31,7 @@ same_lines names k [] = refl
 same_lines names k (e ∷ more) = ap (λ rest. (decimal k ++ (codes " " ++ (entry_text names e.action e.chosen ++ codes "\n"))) ++ rest) (same_lines names (k + 1) more)
 
 -- a report begins with them
-joined : (a b c d e : List ℕ) → (((a ++ b) ++ c) ++ d) ++ e ≡ a ++ (b ++ (c ++ (d ++ e)))
+pub joined : (a b c d e : List ℕ) → (((a ++ b) ++ c) ++ d) ++ e ≡ a ++ (b ++ (c ++ (d ++ e)))
 joined a b c d e = simp append_assoc
 
 pub stands : (s : SystemParts) (r : Record) (endings : List Ending) → (behind : List ℕ) × (report_text s r endings ≡ schedule_text s.names r.schedule ++ behind)
@@ -65,7 +65,7 @@ may_choose_all many [] simple bounded = tt
 may_choose_all many (v ∷ vs) simple bounded = (may_choose many v simple.0 bounded.0, may_choose_all many vs simple.1 bounded.1)
 
 -- each may be taken
-may_take : (s : SystemParts) (es : List PlainEntry) → AllByRecursion (IsTaken s) es → AllByRecursion HasRuntimeValues es → AllByRecursion (MayTake s) es
+pub may_take : (s : SystemParts) (es : List PlainEntry) → AllByRecursion (IsTaken s) es → AllByRecursion HasRuntimeValues es → AllByRecursion (MayTake s) es
 may_take s [] taken values = tt
 may_take s (e ∷ more) taken values = (
   record {
@@ -79,7 +79,7 @@ may_take s (e ∷ more) taken values = (
 )
 
 -- a schedule whose lines are read back
-record IsPrinted (s : SystemParts) (es : List PlainEntry) : Type 0 where
+pub record IsPrinted (s : SystemParts) (es : List PlainEntry) : Type 0 where
   pub system : IsTextSystem s
   pub may : AllByRecursion (MayTake s) es
   pub few : 0 + length es ≤ greatest_number
@@ -93,7 +93,7 @@ abbrev pub TextLaw : Type 0
 TextLaw = (p : SourceText) (text : List ℕ) (s : SystemParts) → TextSpells p text → IsSystemOf p s → IsTextSystem s
 
 -- what a run left is such a schedule
-printed : TakenLaw → TextLaw → (text : List ℕ) (s : SystemParts) (r : Record) → IsReported text s r → IsPrinted s r.schedule
+pub printed : TakenLaw → TextLaw → (text : List ℕ) (s : SystemParts) (r : Record) → IsReported text s r → IsPrinted s r.schedule
 printed taken of_text text s r h =
     let run = h.run in
     let replayed = run.run.left.replayed in

@@ -14,12 +14,12 @@ use Rattle.ioa_terms.specs.Sorted.{IsShaped, NameShapes}
 use Rattle.ioa_terms.specs.declared.tree.Kind.{Kind}
 use Rattle.ioa_terms.specs.declared.tree.Kind.TheVariants.{Input, Internal, Output}
 use Rattle.ioa_terms.proofs.Sound.{value_has}
-use Rattle.ioa_actions.specs.ActionParts.{action_arguments, action_name}
+use Rattle.ioa_actions.specs.ActionParts.{action_arguments, action_name, node_of}
 use Rattle.ioa_actions.specs.declared.action.Action.{Action}
 use Rattle.ioa_actions.specs.declared.action.Action.TheVariants.{Local, Receive, Send, Stimulus}
 use Rattle.ioa_source.specs.PlainText.{const, named}
 use Rattle.ioa_source.specs.Sides.{CheckedParameter, SourceEntry, SourceParameter, SourceText}
-use Rattle.ioa_system.specs.Declarations.{DeclaresOnce, IsWellDeclared}
+use Rattle.ioa_system.specs.Declarations.{DeclaresOnce}
 use Rattle.ioa_system.specs.InView.{entry_constant, given_bindings}
 use Rattle.ioa_system.specs.Parts.{AutomatonParts, Parts, PlainRule, rule_named}
 use Rattle.ioa_system.specs.Systems.{SystemParts, program_numbered}
@@ -47,6 +47,7 @@ use Rattle.ioa_run_laws.proofs.NodeSteps.{is_rule}
 use Rattle.ioa_run_laws.proofs.Runs.{IsOwnStep, run_steps}
 use Rattle.ioa_run_laws.proofs.Starts.{all_contained}
 use Rattle.ioa_printed_lines.specs.TextSystems.{IsNoMessage}
+use Rattle.ioa_report_laws.specs.Signatures.{IsInSignature}
 use Rattle.ioa_report_laws.specs.Taken.{IsTaken}
 
 -- the kind of an action and that of its entry
@@ -102,16 +103,40 @@ module _ (types : TypeTable) (names : NameShapes) (b : Bindings) (shaped : IsSha
   arguments_taken (u ∷ us) (p ∷ ps) (s ∷ ss) [] h k = absurd k
   arguments_taken (u ∷ us) (p ∷ ps) (s ∷ ss) (v ∷ vs) h k = rw (argument_taken u p s v h.0 k.0) (arguments_taken us ps ss vs h.1 k.1)
 
+-- the node of an entry that it takes, and the rule that it takes, are found by the number and the name of the action
+own_placed : (x : SourceText) (s : SystemParts) → IsSystemOf x s → (en : PlainEntry) (own : IsOwnStep s en) → program_numbered (node_of en.action) s.programs ≡ Some own.old.program
+own_placed x s h en own =
+    subst (λ (k : ℤ). program_numbered k s.programs ≡ Some own.old.program) own.number
+    (contained_found int_eq (λ k. (Decides-int_eq k k).1 refl) (λ (q : Parts). q.node) s.programs (declared_once x s h).nodes own.old.program own.shaped.program)
+
+own_named : (x : SourceText) (s : SystemParts) → IsSystemOf x s → (en : PlainEntry) (own : IsOwnStep s en) → rule_named (action_name en.action) own.old.program.automaton.rules ≡ Some own.step.rule
+own_named x s h en own =
+    let once : DeclaresOnce own.old.program = contained_has DeclaresOnce s.programs own.old.program (declared_once x s h).programs own.shaped.program in
+    subst (λ (w : List ℕ). rule_named w own.old.program.automaton.rules ≡ Some own.step.rule) own.step.mine.action.name
+    (contained_found same_word (λ w. (bytes_eq-Decides w w).1 refl) (λ (q : PlainRule). q.entry.name) own.old.program.automaton.rules once.entries own.step.rule own.step.mine.present)
+
+-- so the action is in the signature of the node, with a kind
+in_signature : (x : SourceText) (s : SystemParts) → IsSystemOf x s → (en : PlainEntry) → IsOwnStep s en → (k : Kind) × IsInSignature s en.action k
+in_signature x s h en own = (
+  own.step.rule.entry.kind,
+  record {
+    program = own.old.program;
+    placed = own_placed x s h en own;
+    rule = own.step.rule;
+    found = own_named x s h en own;
+    kind = refl;
+    of_kind = own.step.mine.action.kind;
+  },
+)
+
 -- what a node takes
 node_taken : (x : SourceText) (s : SystemParts) → IsSystemOf x s → (en : PlainEntry) → IsOwnStep s en → IsTaken s en
 node_taken x s h en own = record {
   action = record {
     program = p;
-    placed = subst (λ (k : ℤ). program_numbered k s.programs ≡ Some p) own.number
-        (contained_found int_eq (λ k. (Decides-int_eq k k).1 refl) (λ (q : Parts). q.node) s.programs well.nodes p own.shaped.program);
+    placed = own_placed x s h en own;
     rule = r;
-    named = subst (λ (w : List ℕ). rule_named w b.rules ≡ Some r) mine.action.name
-        (contained_found same_word (λ w. (bytes_eq-Decides w w).1 refl) (λ (q : PlainRule). q.entry.name) b.rules once.entries r mine.present);
+    named = own_named x s h en own;
     kind = kind_taken en.action r.entry.kind mine.action.kind;
     sorted = arguments_taken h.types.types (names_at entry_constant h.types.constants b.parameters b.variables []) (given_bindings b p.arguments)
         (given_valued h.types b accepted.automaton.constants (system_constants x s h) p.arguments own.shaped.arguments).shaped
@@ -133,12 +158,6 @@ node_taken x s h en own = record {
     mine : HasRule p en.action r
     mine = own.step.mine
 
-    well : IsWellDeclared s
-    well = declared_once x s h
-
-    once : DeclaresOnce p
-    once = contained_has DeclaresOnce s.programs p well.programs own.shaped.program
-
     accepted : IsAcceptedProgram h.types p
     accepted = is_accepted x s h p own.shaped.program
 
@@ -148,6 +167,9 @@ node_taken x s h en own = record {
 -- an execution from the start, and a replay from it
 pub entries_taken : (x : SourceText) (s : SystemParts) (entries : List PlainEntry) (cs : List Conf) → IsSystemOf x s → IsExecution (IsJointStep IsStep) (start s) entries cs → AllByRecursion (IsTaken s) entries
 entries_taken x s entries cs h e = all_contained (IsTaken s) entries (λ en c. node_taken x s h en (contained_has (IsOwnStep s) entries en (run_steps x s entries cs h e) c))
+
+pub signatures_taken : (x : SourceText) (s : SystemParts) (entries : List PlainEntry) (cs : List Conf) → IsSystemOf x s → IsExecution (IsJointStep IsStep) (start s) entries cs → AllByRecursion (λ en. (k : Kind) × IsInSignature s en.action k) entries
+signatures_taken x s entries cs h e = all_contained (λ en. (k : Kind) × IsInSignature s en.action k) entries (λ en c. in_signature x s h en (contained_has (IsOwnStep s) entries en (run_steps x s entries cs h e) c))
 
 pub replay_taken : (x : SourceText) (s : SystemParts) (entries : List PlainEntry) (cs : List Conf) → IsSystemOf x s → replay entries (start s) ≡ Some cs → AllByRecursion (IsTaken s) entries
 replay_taken x s entries cs h e = entries_taken x s entries cs h (replays entries (start s) cs (start_state s (declared_once x s h)) e)

@@ -13,4 +13,6 @@ returns c =
       read = λ text s h. c.report_law.ensures.read text s r (of_run text s h);
       execution = λ text s h. c.report_law.ensures.execution text s r (of_run text s h);
       accepted = λ text s h. c.report_law.ensures.accepted text s r (of_run text s h);
+      part = λ text s endings h. c.report_law.ensures.part text s r endings (of_run text s h);
+      whole = λ text s endings h. c.report_law.ensures.whole text s r endings (of_run text s h);
     }

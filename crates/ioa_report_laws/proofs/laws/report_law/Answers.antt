@@ -1,4 +1,5 @@
 use Rattle.ioa_report_laws.proofs.Schedules.{report_accepted, report_execution, report_read, report_spelled, same_lines, stands}
+use Rattle.ioa_report_laws.proofs.WholeReports.{report_part, report_passes}
 use Rattle.ioa_report_laws.proofs.laws.report_law.Goals as goal
 
 pub returns : goal.returns
@@ -13,4 +14,6 @@ returns c =
       read = report_read taken of_text c.printed_lines_law.ensures.read;
       execution = report_execution taken of_text spelled;
       accepted = report_accepted taken of_text spelled c.schedule_law.ensures.execution;
+      part = report_part taken of_text;
+      whole = report_passes taken of_text c.schedule_law.ensures.execution;
     }
