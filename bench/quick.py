@@ -40,8 +40,8 @@ exec "{clang}" "$@"
 """
 
 
-def shadow(kit, into, module):
-    """The toolchain's folder by links, but with a clang that keeps the program's module."""
+def shadow(kit, into, name, script):
+    """The toolchain's folder by links, but with this script in place of a tool of the toolchain."""
     (into / "toolchain" / "bin").mkdir(parents=True)
     for path in kit.iterdir():
         if path.name == "bin":
@@ -51,12 +51,11 @@ def shadow(kit, into, module):
     for path in (kit / "toolchain").iterdir():
         if path.name != "bin":
             (into / "toolchain" / path.name).symlink_to(path)
-    clang = kit / "toolchain" / "bin" / "clang"
-    for path in clang.parent.iterdir():
-        if path != clang:
+    for path in (kit / "toolchain" / "bin").iterdir():
+        if path.name != name:
             (into / "toolchain" / "bin" / path.name).symlink_to(path)
-    keeper = into / "toolchain" / "bin" / "clang"
-    keeper.write_text(KEEPER.format(module=module, clang=clang))
+    keeper = into / "toolchain" / "bin" / name
+    keeper.write_text(script)
     keeper.chmod(0o755)
 
 
@@ -117,7 +116,7 @@ def build(out, folder):
     with tempfile.TemporaryDirectory() as place:
         place = Path(place)
         module, text, light, made = (place / it for it in ("module.bc", "module.ll", "light.ll", "module.o"))
-        shadow(kit, place / "kit", module)
+        shadow(kit, place / "kit", "clang", KEEPER.format(module=module, clang=clang))
         tried = subprocess.run(
             [place / "kit" / "bin" / "rt", "try", "--", "--help"],
             cwd=folder / "crates" / "ioarun", capture_output=True, text=True,
