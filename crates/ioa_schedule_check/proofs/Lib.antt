@@ -2,3 +2,4 @@
 pub mod Steps
 pub mod Meant
 pub mod Taken
+pub mod Refused

@@ -53,17 +53,17 @@ replay_steps k (x ∷ more) cs states h =
     by_step (Err f) g further = absurd (cc)
 
 -- steps from a place on have a fault: so many of them replay, and the next one has it
-record Stops (k : ℕ) (entries : List PlainEntry) (cs : List Conf) (f : ScheduleFault) : Type 0 where
-  many : ℕ
-  states : List Conf
-  before : replay (take many entries) cs ≡ Some states
-  entry : PlainEntry
-  next : slice_get entries many ≡ Some entry
-  why : StepFault
-  fault : joint_answer entry states ≡ Err why
-  told : f ≡ fault_at (k + many) why
+pub record Stops (k : ℕ) (entries : List PlainEntry) (cs : List Conf) (f : ScheduleFault) : Type 0 where
+  pub many : ℕ
+  pub states : List Conf
+  pub before : replay (take many entries) cs ≡ Some states
+  pub entry : PlainEntry
+  pub next : slice_get entries many ≡ Some entry
+  pub why : StepFault
+  pub fault : joint_answer entry states ≡ Err why
+  pub told : f ≡ fault_at (k + many) why
 
-steps_stop : (k : ℕ) (entries : List PlainEntry) (cs : List Conf) (f : ScheduleFault) → steps_answer k entries cs ≡ Err f
+pub steps_stop : (k : ℕ) (entries : List PlainEntry) (cs : List Conf) (f : ScheduleFault) → steps_answer k entries cs ≡ Err f
     → Stops k entries cs f
 steps_stop k [] cs f h = absurd (cc)
 steps_stop k (x ∷ more) cs f h =

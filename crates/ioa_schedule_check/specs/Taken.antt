@@ -1,17 +1,20 @@
 -- The steps that lines of a schedule take, one after another, as far as they take any (profile).
-use Rattle.std.specs.Prelude.{◌≡◌, ◌⊎◌, ⊤, ℕ, ◌+◌, List, [], ◌∷◌, ◌++◌, Option, Some, None, Result, Ok, Err}
+use Rattle.std.specs.Prelude.{◌≡◌, ◌⊎◌, ⊤, ℕ, ◌+◌, List, [], ◌∷◌, ◌++◌, length}
+use Rattle.std.specs.Prelude.{Option, Some, None, Result, Ok, Err}
 use Rattle.ioa_actions.specs.declared.fault.StepFault.{StepFault}
 use Rattle.ioa_transitions.specs.Entries.{PlainEntry}
 use Rattle.ioa_system.specs.Systems.{SystemParts}
 use Rattle.ioa_tokens.specs.LineTokens.{line_tokens}
 use Rattle.ioa_compose.specs.declared.configuration.Conf.{Conf}
 use Rattle.ioa_compose.specs.Composition.{joint_answer}
+use Rattle.ioa_compose.specs.Executions.{replay}
 use Rattle.ioa_compose.specs.Start.{start}
-use Rattle.ioa_lines.specs.Lines.{LinesLeft, cut_entry, entries_left, lines_left, lines_of}
+use Rattle.ioa_lines.specs.Lines.{Lines, LinesLeft, cut_entry, entries_left, lines_left, lines_of}
 use Rattle.ioa_lines.specs.declared.fault.LineFault.{LineFault}
 use Rattle.ioa_schedule_check.specs.declared.fault.ScheduleFault.{ScheduleFault}
-use Rattle.ioa_schedule_check.specs.declared.fault.ScheduleFault.TheVariants.{Memory}
-use Rattle.ioa_schedule_check.specs.Schedules.{IsExecutionSpelled, steps_of_lines}
+use Rattle.ioa_schedule_check.specs.declared.fault.ScheduleFault.TheVariants.{Undefined, Range, Memory, NotStep}
+use Rattle.ioa_schedule_check.specs.declared.fault.ScheduleFault.TheVariants.{BadLine}
+use Rattle.ioa_schedule_check.specs.Schedules.{IsExecutionSpelled, fault_at, steps_of_lines}
 
 -- an entry and those behind it, if its joint step leads to a state; nothing if it is no step
 abbrev pub taken_by : PlainEntry → (List Conf → List PlainEntry) → Result (List Conf) StepFault → List PlainEntry
@@ -66,3 +69,72 @@ answer_by (Some f) = Err f
 abbrev pub IsWholeIf : Option ScheduleFault → SystemParts → List ℕ → List PlainEntry → Type 0
 IsWholeIf None s text entries = (execution : IsExecutionSpelled s text) × (execution.entries ≡ entries)
 IsWholeIf (Some f) s text entries = ⊤
+
+-- an entry, if lines that are refused with this fault are refused for an entry; none if they are for a line that spells
+-- none, or for want of memory
+abbrev pub refused_for : ScheduleFault → PlainEntry → Option PlainEntry
+refused_for (Undefined k) e = Some e
+refused_for (Range k) e = Some e
+refused_for Memory e = None
+refused_for (NotStep k) e = Some e
+refused_for (BadLine k) e = None
+
+-- an entry of this place, if its joint step has a fault; that of those behind it if it leads to a state
+abbrev pub refused_by : ℕ → PlainEntry → (List Conf → Option PlainEntry) → Result (List Conf) StepFault
+    → Option PlainEntry
+refused_by k e later (Ok next) = later next
+refused_by k e later (Err f) = refused_for (fault_at k f) e
+
+-- the first entry that is no step, of entries one after another, the first of which has this place
+abbrev pub refused_among : ℕ → List PlainEntry → List Conf → Option PlainEntry
+refused_among k [] cs = None
+refused_among k (e ∷ more) cs = refused_by k e (refused_among (k + 1) more) (joint_answer e cs)
+
+-- the same of the entries that lines spell; none if a line spells none
+abbrev pub refused_of_lines : ℕ → List Conf → Result (List PlainEntry) LineFault → Option PlainEntry
+refused_of_lines k cs (Ok entries) = refused_among k entries cs
+refused_of_lines k cs (Err f) = None
+
+-- that of the lines that are left
+unfoldable pub refused_left : SystemParts → LinesLeft → List Conf → Option PlainEntry
+refused_left s left cs = refused_of_lines left.count cs (entries_left s left)
+
+-- that of the lines of a text, from the start of a system
+unfoldable pub refused_of : SystemParts → List ℕ → Option PlainEntry
+refused_of s text = refused_left s (lines_left 0 (lines_of text)) (start s)
+
+-- what the next step of lines tells of the entry for which they are refused: it is that of those behind; or there is
+-- none; or, if there is no next step, it is this one
+abbrev pub RefusesNext : SystemParts → LinesLeft → List Conf → Result (Option PlainEntry) ScheduleFault → LinesLeft
+    → List Conf → Option PlainEntry → Type 0
+RefusesNext s old cs (Ok (Some e)) new next refused = refused_left s old cs ≡ refused_left s new next
+RefusesNext s old cs (Ok None) new next refused = refused_left s old cs ≡ None
+RefusesNext s old cs (Err f) new next refused = (f ≡ Memory) ⊎ (refused_left s old cs ≡ refused)
+
+-- lines of which all are taken are refused for no entry; else they are for this one, unless memory ran out
+abbrev pub RefusesAll : Result (Unit {0}) ScheduleFault → (refused left : Option PlainEntry) → Type 0
+RefusesAll (Ok x) refused left = left ≡ None
+RefusesAll (Err f) refused left = (f ≡ Memory) ⊎ (refused ≡ left)
+
+-- the lines of a text spell these entries, which replay from the start of a system, then this one, whose joint step has
+-- a fault, and then others (Lynch 8.1); and that is what the lines are refused for
+pub record StopsBehind (s : SystemParts) (text : List ℕ) (taken : List PlainEntry) (refused : Option PlainEntry)
+    (f : ScheduleFault) : Type 0 where
+  pub entry : PlainEntry
+  pub is : refused ≡ Some entry
+  pub rest : List PlainEntry
+  pub spelled : Lines s text (taken ++ entry ∷ rest)
+  pub states : List Conf
+  pub before : replay taken (start s) ≡ Some states
+  pub why : StepFault
+  pub fault : joint_answer entry states ≡ Err why
+  pub told : fault_at (length taken) why ≡ f
+
+-- if the lines of a text are refused for an entry, it is this one, behind those taken; else there is none
+abbrev pub IsRefusedIf : Option ScheduleFault → SystemParts → List ℕ → List PlainEntry → Option PlainEntry → Type 0
+IsRefusedIf None s text taken refused = refused ≡ None
+IsRefusedIf (Some (Undefined k)) s text taken refused = StopsBehind s text taken refused (Undefined k)
+IsRefusedIf (Some (Range k)) s text taken refused = StopsBehind s text taken refused (Range k)
+IsRefusedIf (Some Memory) s text taken refused = refused ≡ None
+IsRefusedIf (Some (NotStep k)) s text taken refused = StopsBehind s text taken refused (NotStep k)
+IsRefusedIf (Some (BadLine k)) s text taken refused = refused ≡ None

@@ -43,6 +43,7 @@ fn follow(
 ) -> Result<(), ScheduleFault>
     ensures { Answers ScheduleFault.Memory (λ u. u) result (steps_left system.now lines.old course.old) }
 {
-    while let Some(_entry) = go_on(alloc, system, course, lines)? {}
+    let mut refused = None;
+    while let Some(_entry) = go_on(alloc, system, course, lines, &mut refused)? {}
     Ok(())
 }

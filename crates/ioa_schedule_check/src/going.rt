@@ -6,7 +6,8 @@ ghost use Rattle.ioa_actions.specs.declared.fault.StepFault.TheVariants as step;
 ghost use Rattle.ioa_lines.specs.Lines.{entries_left};
 ghost use Rattle.ioa_schedule_check.specs.Schedules as spec;
 ghost use Rattle.ioa_schedule_check.specs.Schedules.{all_read};
-ghost use Rattle.ioa_schedule_check.specs.Taken.{TakesNext};
+ghost use Rattle.ioa_schedule_check.specs.Taken as taken;
+ghost use Rattle.ioa_schedule_check.specs.Taken.{RefusesNext, TakesNext};
 
 use crate::fault::{ScheduleFault, fault_at};
 use ioa_actions::StepFault;
@@ -17,25 +18,47 @@ use ioa_transitions::Entry;
 use std::alloc::Global;
 
 /// Takes the step of the entry that the next line with tokens spells, and returns the entry; none if no line is left.
-/// If that is no step, the lines behind it are still read, since a line that spells no entry is told before it.
+/// If that is no step, the lines behind it are still read, since a line that spells no entry is told before it. With a
+/// refusal it says for which entry the lines are refused, if for one.
 pub(crate) fn go_on(
     alloc: Global,
     system: &System,
     course: &mut Course,
     lines: &mut ScheduleLines<'_>,
+    refused: &mut Option<Entry>,
 ) -> Result<Option<Entry>, ScheduleFault>
     ensures next { TakesNext system.now lines.old course.old result lines.new course.new }
+    ensures refused { RefusesNext system.now lines.old course.old result lines.new course.new refused.new }
     ensures fewer { IfOk result (λ o. IfSome o (λ _. length lines.new.lines < length lines.old.lines)) }
 {
     let place = lines.count();
     let entry = match lines.next(alloc, system) {
         Ok(Some(entry)) => entry,
         Ok(None) => return Ok(None),
-        Err(fault) => return Err(ScheduleFault::from(fault)),
+        Err(fault) => {
+            *refused = None;
+            return Err(ScheduleFault::from(fault));
+        }
     };
     match course.advance(alloc, &entry) {
         Ok(()) => Ok(Some(entry)),
-        Err(fault) => Err(refusal(alloc, system, lines, place, fault)),
+        Err(fault) => {
+            let fault = refusal(alloc, system, lines, place, fault);
+            *refused = refused_for(fault, entry);
+            Err(fault)
+        }
+    }
+}
+
+/// The entry, if lines that are refused with this fault are refused for an entry.
+fn refused_for(fault: ScheduleFault, entry: Entry) -> Option<Entry>
+    ensures { result ≡ taken.refused_for fault entry }
+{
+    match fault {
+        ScheduleFault::Undefined(_) | ScheduleFault::Range(_) | ScheduleFault::NotStep(_) => {
+            Some(entry)
+        }
+        ScheduleFault::Memory | ScheduleFault::BadLine(_) => None,
     }
 }
 
