@@ -60,8 +60,24 @@ pub fn find_falsified<'a, O: Origin>(
         (read_confs look.now.reads)) action.now (false_part_found f))) }
 {
     match conf_of(look, Component::Node(action.node())) {
-        Some(Conf::Node(conf)) => falsified_at(alloc, conf, action),
-        _ => Ok(None),
+        Some(conf) => find_falsified_in(alloc, conf, action),
+        None => Ok(None),
+    }
+}
+
+/// The first false part of the rule by which a node of this configuration takes an action. None as for a look, or if
+/// the configuration is a queue's.
+pub fn find_falsified_in<'a>(
+    alloc: Global,
+    conf: &'a Conf,
+    action: &Action,
+) -> Result<Option<Falsified<'a>>, AllocError>
+    ensures { IfOk result (λ o. IfSome o
+        (λ f. IsFalsified (Some conf.now) action.now (false_part_found f))) }
+{
+    match conf {
+        Conf::Node(node) => falsified_at(alloc, node, action),
+        Conf::Queue(_) => Ok(None),
     }
 }
 

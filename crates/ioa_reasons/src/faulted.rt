@@ -51,8 +51,24 @@ pub fn find_faulted<'a, O: Origin>(
         (read_confs look.now.reads)) action.now (place_of f.place) (fault_found f.fault))) }
 {
     match conf_of(look, Component::Node(action.node())) {
-        Some(Conf::Node(conf)) => faulted_at(alloc, conf, action),
-        _ => Ok(None),
+        Some(conf) => find_faulted_in(alloc, conf, action),
+        None => Ok(None),
+    }
+}
+
+/// The part at which the step of this action stops at a node of this configuration. None as for a look, or if the
+/// configuration is a queue's.
+pub fn find_faulted_in<'a>(
+    alloc: Global,
+    conf: &'a Conf,
+    action: &Action,
+) -> Result<Option<Faulted<'a>>, AllocError>
+    ensures { IfOk result (λ o. IfSome o
+        (λ f. IsFaulted (Some conf.now) action.now (place_of f.place) (fault_found f.fault))) }
+{
+    match conf {
+        Conf::Node(node) => faulted_at(alloc, node, action),
+        Conf::Queue(_) => Ok(None),
     }
 }
 

@@ -20,11 +20,11 @@ mod stops;
 mod stuck;
 mod unfit;
 
-pub use falsified::{Falsified, find_falsified};
-pub use faulted::{Faulted, find_faulted};
+pub use falsified::{Falsified, find_falsified, find_falsified_in};
+pub use faulted::{Faulted, find_faulted, find_faulted_in};
 pub use found::{FoundFault, StatementFault};
-pub use misses::reason_of;
+pub use misses::{reason_of, reason_with};
 pub use reason::{Fault, NamedValue, Place, Reason, StatementPlace, Test};
 pub use shown::{conf_of, queue_of};
 pub use stuck::find_stuck;
-pub use unfit::{Unfit, find_unfit};
+pub use unfit::{Unfit, find_unfit, find_unfit_in};

@@ -1,9 +1,9 @@
 //! Why an action was not enabled.
 
 ghost use Rattle.std.specs.Prelude.{◌≡◌, true, Some, slice_get};
+ghost use Rattle.std.specs.Option.{option_copied};
 ghost use Rattle.ioa_channels.specs.Fronts.{front_item};
 ghost use Rattle.ioa_commits.specs.Versions.{read_confs};
-ghost use Rattle.ioa_compose.specs.Composition.{find_conf};
 ghost use Rattle.ioa_compose.specs.Participants.{participants_of};
 ghost use Rattle.ioa_reasons.specs.PlainReasons as told;
 ghost use Rattle.ioa_reasons.specs.Reasons as spec;
@@ -11,11 +11,11 @@ ghost use Rattle.ioa_reasons.specs.Reasons.{IsReason};
 ghost use Rattle.ioa_reasons.specs.Reasons.{is_by_order, queue_among};
 
 use crate::reason::Reason;
-use crate::shown::conf_of;
-use ioa_actions::{Action, ChannelKind, Component};
+use crate::shown::queue_of;
+use ioa_actions::{Action, ChannelKind};
 use ioa_book::Snapshot;
 use ioa_channels::{Front, Queue};
-use ioa_compose::{Conf, Parties, participants};
+use ioa_compose::Conf;
 use ioa_sharing::Origin;
 
 /// Why an action that is not enabled on what a look shows is not, by the queue that takes part in it: the queue has no
@@ -25,17 +25,15 @@ pub fn reason_of<'a, O: Origin>(look: &'a Snapshot<O>, action: &Action) -> Reaso
     ensures { IsReason (queue_among (participants_of action.now) (read_confs look.now.reads)) action.now
         (told.reason_of result) }
 {
-    match participants(action) {
-        Parties::One(_) => Reason::Node,
-        Parties::Two(queue, _) => reason_at(look, action, queue),
-    }
+    reason_with(queue_of(look, action), action)
 }
 
-/// The same, if this queue takes part.
-fn reason_at<'a, O: Origin>(look: &'a Snapshot<O>, action: &Action, queue: Component) -> Reason<'a>
-    ensures { IsReason (find_conf queue (read_confs look.now.reads)) action.now (told.reason_of result) }
+/// Why an action that is not enabled is not, by the configuration of the queue that takes part in it. The node's reason
+/// if none does.
+pub fn reason_with<'a>(queue: Option<&'a Conf>, action: &Action) -> Reason<'a>
+    ensures { IsReason (option_copied queue.entry) action.now (told.reason_of result) }
 {
-    match conf_of(look, queue) {
+    match queue {
         Some(conf) => reason_of_conf(conf, action),
         None => Reason::Node,
     }

@@ -43,8 +43,24 @@ pub fn find_unfit<'a, O: Origin>(
         (read_confs look.now.reads)) action.now u.name.now u.value)) }
 {
     match conf_of(look, Component::Node(action.node())) {
-        Some(Conf::Node(conf)) => unfit_at(alloc, conf, action),
-        _ => Ok(None),
+        Some(conf) => find_unfit_in(alloc, conf, action),
+        None => Ok(None),
+    }
+}
+
+/// The first argument of this action that is not of the sort of its parameter at a node of this configuration. None as
+/// for a look, or if the configuration is a queue's.
+pub fn find_unfit_in<'a>(
+    alloc: Global,
+    conf: &'a Conf,
+    action: &Action,
+) -> Result<Option<Unfit<'a>>, AllocError>
+    ensures { IfOk result (λ o. IfSome o
+        (λ u. IsUnfit (Some conf.now) action.now u.name.now u.value)) }
+{
+    match conf {
+        Conf::Node(node) => unfit_at(alloc, node, action),
+        Conf::Queue(_) => Ok(None),
     }
 }
 
