@@ -4,6 +4,8 @@ pub mod Events
 pub mod Faults
 pub mod Marks
 pub mod Nodes
+pub mod Refusals
+pub mod Schedules
 pub mod Steps
 pub mod Told
 pub mod Visits

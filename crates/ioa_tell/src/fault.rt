@@ -5,12 +5,13 @@ use std::alloc::{AllocError, AllocFailed};
 use std::fmt;
 use thiserror::Error;
 
-/// Why a run is not told, or not to its end.
+/// Why a run or a schedule is not told, or not to its end.
 #[derive(Clone, Copy, Debug, PartialEq, Eq, Error)]
 pub enum TellFault {
     /// `Memory` (3): memory ran out.
     Memory,
-    /// `Differs` (51): the record is not that of a run of this system by one worker with these options.
+    /// `Differs` (51): the record is not that of a run of this system by one worker with these options; or an entry
+    /// that is given as a step is none, or one that is given as none is one.
     Differs,
 }
 
