@@ -2,6 +2,7 @@
 pub mod Changes
 pub mod Kept
 pub mod Lines
+pub mod Refusals
 pub mod Stops
 pub mod Teller
 pub mod Terms

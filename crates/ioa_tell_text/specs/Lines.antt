@@ -14,7 +14,11 @@ use Rattle.ioa_tell_text.specs.declared.waiting.Waiting.{Waiting}
 use Rattle.ioa_tell_text.specs.declared.waiting.Why.{Why}
 use Rattle.ioa_tell_text.specs.declared.waiting.Why.TheVariants as why
 
--- `k action` for the action after k others, with what its effect chose, and then what it changed
+-- `k action` for the action after k others, with what its effect chose
+abbrev pub numbered_text : List (List ℕ) → ℕ → PlainEntry → List ℕ
+numbered_text names k e = decimal k ++ (codes " " ++ entry_text names e.action e.chosen)
+
+-- the same for an action that was taken, and then what it changed
 abbrev pub taken_line : List (List ℕ) → ℕ → PlainEntry → Conf → Conf → Option Conf → List ℕ
 taken_line names k e before after queue =
     decimal k ++ (codes " " ++ (entry_text names e.action e.chosen

@@ -4,9 +4,12 @@ use Rattle.std.specs.Fmt.{decimal}
 use Rattle.ioa_actions.specs.ActionParts.{node_of}
 use Rattle.ioa_paper.specs.Papers.{PlainPaper, and_text}
 use Rattle.ioa_record.specs.Endings.{ending_text}
+use Rattle.ioa_transitions.specs.Entries.{PlainEntry}
 use Rattle.ioa_tell.specs.Events.{PlainEvent, taken, missed, faulted, unfit, stuck, idle, stopped, ended}
+use Rattle.ioa_tell.specs.Refusals.{PlainRefusal}
 use Rattle.ioa_tell_text.specs.Kept.{is_of, next_waiting, same_passing, why_of, without}
 use Rattle.ioa_tell_text.specs.Lines.{fault_line, taken_line, waiting_text}
+use Rattle.ioa_tell_text.specs.Refusals.{refusal_text, refused_line}
 use Rattle.ioa_tell_text.specs.Stops.{stop_text, stuck_line, stuck_text, unfit_text}
 use Rattle.ioa_tell_text.specs.declared.waiting.Passing.{Passing}
 use Rattle.ioa_tell_text.specs.declared.waiting.Passing.TheVariants.{Idle, Missed}
@@ -75,3 +78,7 @@ teller_after (idle k n) t = waits n Idle t
 teller_after (stopped k n) t = flushed n t
 teller_after (ended n e) t =
     and_written t (codes "ending " ++ (decimal n ++ (codes " " ++ (ending_text e ++ codes "\n"))))
+
+-- after an entry of a schedule that is no step: its line is written at once, behind all that was told
+abbrev pub teller_refused : ℕ → PlainEntry → PlainRefusal → PlainTeller → PlainTeller
+teller_refused k e r t = and_written t (refused_line t.names k e (refusal_text t.names r))

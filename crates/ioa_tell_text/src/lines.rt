@@ -7,7 +7,7 @@ ghost use Rattle.ioa_actions.specs.ActionText.{action_text};
 ghost use Rattle.ioa_monitor.specs.Reports.{item_text};
 ghost use Rattle.ioa_paper.specs.Papers.{and_text};
 ghost use Rattle.ioa_tell_text.specs.Changes.{component_text};
-ghost use Rattle.ioa_tell_text.specs.Lines.{at_text, fault_line, passing_text, taken_line};
+ghost use Rattle.ioa_tell_text.specs.Lines.{at_text, fault_line, numbered_text, passing_text, taken_line};
 ghost use Rattle.ioa_tell_text.specs.Lines.{times_text, waiting_text, why_text};
 
 use crate::changes::{put_changes, put_component, put_word};
@@ -34,11 +34,23 @@ pub(crate) fn put_taken<O: Out>(
     ensures { paper.new ≡ and_text paper.old
         (taken_line names.now number entry.now before.now after.now (option_copied queue.entry)) }
 {
+    put_numbered(paper, names, number, entry);
+    put_changes(paper, names, before, after, queue);
+    paper.put("\n");
+}
+
+/// Writes an action behind its number, with what its effect chose.
+pub(crate) fn put_numbered<O: Out>(
+    paper: &mut Paper<'_, O>,
+    names: &Names,
+    number: usize,
+    entry: &Entry,
+)
+    ensures { paper.new ≡ and_text paper.old (numbered_text names.now number entry.now) }
+{
     paper.put_number(number);
     paper.put(" ");
     put_entry(paper, names, entry.action(), entry.chosen());
-    put_changes(paper, names, before, after, queue);
-    paper.put("\n");
 }
 
 /// Writes the line of an action whose step met a fault.
@@ -120,7 +132,7 @@ fn put_at<O: Out>(paper: &mut Paper<'_, O>, action: &Action)
 }
 
 /// Writes why an action was not enabled.
-fn put_why<O: Out>(paper: &mut Paper<'_, O>, names: &Names, why: &Why)
+pub(crate) fn put_why<O: Out>(paper: &mut Paper<'_, O>, names: &Names, why: &Why)
     ensures { paper.new ≡ and_text paper.old (why_text names.now why.now) }
 {
     match why {

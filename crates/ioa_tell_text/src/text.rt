@@ -14,6 +14,7 @@ ghost use Rattle.ioa_tell_text.specs.Teller.{and_written, flushed, waits, waits_
 use crate::keeping::taken_out;
 use crate::kept::KeptText;
 use crate::lines::{put_fault, put_taken, put_waiting};
+use crate::refusals::put_refused;
 use crate::stops::{put_stuck, stop_text, stuck_text, unfit_text};
 use crate::waiting::{Passing, Waiting, Why, kept};
 use ioa_actions::Action;
@@ -22,7 +23,7 @@ use ioa_monitor::put_ending;
 use ioa_paper::Paper;
 use ioa_reasons::{Fault, Place, Reason, StatementPlace};
 use ioa_streams::{Out, OutFailed};
-use ioa_tell::{Event, TellFault, Tells};
+use ioa_tell::{Event, Refusal, TellFault, Tells, TellsRefusal};
 use ioa_transitions::Entry;
 use ioa_values::{Names, Value, Word};
 use std::alloc::{AllocError, Global};
@@ -31,7 +32,8 @@ use std::marker::Model;
 /// Writes what is told as a text: `k action   node i: x = v -> w; channel i -> j holds n` for an action that was taken,
 /// `  missed action@i: why   (n times)` for n misses one after another, `  fault action@i: why` for a fault of a step,
 /// `  fault @i: why` for one of a block, `  idle @i   (n times)` for idle turns, and `ending i e` for the endings. A
-/// miss or an idle turn is written once its node does something else, just before that.
+/// miss or an idle turn is written once its node does something else, just before that. Of a schedule that is given,
+/// `not a step: k action: why` is the line of the entry that is no step, behind k that are.
 pub struct TextTeller<'a, O: Out> {
     paper: Paper<'a, O>,
     names: &'a Names,
@@ -325,5 +327,23 @@ impl<'a, O: Out> Tells for TextTeller<'a, O> {
                 Ok(())
             }
         }
+    }
+}
+
+impl<'a, O: Out> TellsRefusal for TextTeller<'a, O> {
+    ghost use Rattle.std.specs.Prelude.{◌≡◌};
+    ghost use Rattle.ioa_tell_text.specs.Teller.{teller_refused};
+
+    ghost refuses = { λ k e r old new. new ≡ teller_refused k e r old };
+
+    fn refused(
+        &mut self,
+        alloc: Global,
+        number: usize,
+        entry: &Entry,
+        refusal: Refusal<'_>,
+    ) -> Result<(), TellFault> {
+        put_refused(alloc, &mut self.paper, self.names, number, entry, refusal)?;
+        Ok(())
     }
 }
