@@ -16,7 +16,7 @@ use crate::partners::{partner_at, partners};
 use ioa_actions::{Action, NodeAction};
 use ioa_paper::{Paper, ReportFault, put_arguments, put_choices, put_listed, put_value, room};
 use ioa_rawlog::RawLog;
-use ioa_record::{Ending, Record};
+use ioa_record::Ending;
 use ioa_streams::{Out, OutFailed};
 use ioa_system::{Program, System};
 use ioa_transitions::Entry;
@@ -27,31 +27,25 @@ use std::sync::Arc;
 /// From how many actions on a note says that viewers may refuse them.
 pub const MANY: usize = 1_000;
 
-/// Puts out the sequence diagram of a run (Lynch 8.1; form: profile) for Mermaid: a participant for each node, a
+/// Puts out the sequence diagram of a schedule (Lynch 8.1; form: profile) for Mermaid: a participant for each node, a
 /// message at its receive with the positions of its send and its receive, so that no two arrows cross, and a note for
 /// each other action, for each message that was not received, and for what the effect of a send or a receive chose. If
-/// memory ran out in the run, by these endings, a last note says so.
+/// memory ran out in the run, by these endings, a last note says so. A schedule that no run left has no endings.
 pub fn mermaid<O: Out>(
     alloc: Global,
     system: &System,
-    run_record: &Record,
+    schedule: &RawLog<Entry>,
     endings: &[Ending],
     out: &mut O,
 ) -> Result<(), ReportFault>
     requires { O.failed out.old ≡ false }
-    ensures { PutsWhole (sequence_of system.now run_record.now.schedule endings.now)
+    ensures { PutsWhole (sequence_of system.now schedule.now endings.now)
         (O.bytes out.old) (O.bytes out.new) (O.failed out.new) result }
 {
-    let partners = partners(alloc, &run_record.schedule)?;
+    let partners = partners(alloc, schedule)?;
     let room = room(alloc)?;
     let mut paper = Paper::new(out, room);
-    put_sequence(
-        &mut paper,
-        system,
-        &run_record.schedule,
-        &partners,
-        ran_out(endings),
-    );
+    put_sequence(&mut paper, system, schedule, &partners, ran_out(endings));
     let (out, outcome) = paper.finish();
     // No effect at run time. The proof reads what `out` holds from the reference that comes back.
     let _ = &*out;

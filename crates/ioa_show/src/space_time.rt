@@ -15,7 +15,7 @@ use crate::memory::ran_out;
 use crate::partners::partners;
 use ioa_paper::{Paper, ReportFault, room};
 use ioa_rawlog::RawLog;
-use ioa_record::{Ending, Record};
+use ioa_record::Ending;
 use ioa_streams::{Out, OutFailed};
 use ioa_system::System;
 use ioa_transitions::Entry;
@@ -46,32 +46,32 @@ text { font: 11px monospace; fill: #333 }
 </defs>
 ";
 
-/// Puts out the space-time diagram of a run (Lynch 8.1; form: profile) as SVG: a line for each node, its actions as
-/// dots from left to right in the order of the schedule, an arrow for each message from its send to its receive, a red
-/// dashed line for one that was not received, and a red upright where an invariant is first not true. Each dot has its
-/// line of the report as its title, and each arrow has those of its send and its receive. If memory ran out in the run,
-/// by these endings, a last line of text says so.
+/// Puts out the space-time diagram of a schedule (Lynch 8.1; form: profile) as SVG: a line for each node, its actions
+/// as dots from left to right in their order, an arrow for each message from its send to its receive, a red dashed line
+/// for one that was not received, and a red upright where an invariant is first not true. Each dot has its line of the
+/// report as its title, and each arrow has those of its send and its receive. If memory ran out in the run, by these
+/// endings, a last line of text says so. A schedule that no run left has no endings.
 pub fn svg<O: Out>(
     alloc: Global,
     system: &System,
-    run_record: &Record,
+    schedule: &RawLog<Entry>,
     endings: &[Ending],
     out: &mut O,
 ) -> Result<(), ReportFault>
     requires { O.failed out.old ≡ false }
-    ensures { PutsWhole (diagram_of system.now run_record.now.schedule endings.now)
+    ensures { PutsWhole (diagram_of system.now schedule.now endings.now)
         (O.bytes out.old) (O.bytes out.new) (O.failed out.new) result }
 {
-    let verdicts = verdicts(alloc, system, &run_record.schedule)?;
-    let partners = partners(alloc, &run_record.schedule)?;
-    let entries = entries_of(alloc, &run_record.schedule)?;
+    let verdicts = verdicts(alloc, system, schedule)?;
+    let partners = partners(alloc, schedule)?;
+    let entries = entries_of(alloc, schedule)?;
     let room = room(alloc)?;
     let mut paper = Paper::new(out, room);
     put_diagram(
         &mut paper,
         system,
         &entries,
-        &run_record.schedule,
+        schedule,
         &partners,
         &verdicts,
         ran_out(endings),

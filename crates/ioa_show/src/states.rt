@@ -19,34 +19,33 @@ use ioa_compose::Conf;
 use ioa_course::Course;
 use ioa_paper::{Paper, ReportFault, put_entry, room};
 use ioa_rawlog::RawLog;
-use ioa_record::{Ending, Record};
+use ioa_record::Ending;
 use ioa_streams::Out;
 use ioa_system::System;
 use ioa_transitions::Entry;
 use ioa_values::Names;
 use std::alloc::{AllocError, Global};
 
-/// Puts out the states of a run in the informal trace format (form: profile), which is JSON: the names of what a state
-/// has, and then a state a line, the start first, each with the action that leads to it and what its effect chose. A
-/// state has each variable `x` of node k as `x@k`, and the messages that wait on a channel as `queue(i, j)`. Behind an
-/// entry that is no step there is no state. If memory ran out in the run, by these endings, the description of the
-/// whole says so. `Memory` (3) can come when a beginning is out already, since each state is made when the one before
-/// it is written.
+/// Puts out the states along a schedule in the informal trace format (form: profile), which is JSON: the names of what
+/// a state has, and then a state a line, the start first, each with the action that leads to it and what its effect
+/// chose. A state has each variable `x` of node k as `x@k`, and the messages that wait on a channel as `queue(i, j)`.
+/// Behind an entry that is no step there is no state. If memory ran out in the run, by these endings, the description
+/// of the whole says so. A schedule that no run left has no endings. `Memory` (3) can come when a beginning is out
+/// already, since each state is made when the one before it is written.
 pub fn itf<O: Out>(
     alloc: Global,
     system: &System,
-    run_record: &Record,
+    schedule: &RawLog<Entry>,
     endings: &[Ending],
     out: &mut O,
 ) -> Result<(), ReportFault>
     requires { O.failed out.old ≡ false }
-    ensures { PutsText (states_text system.now run_record.now.schedule endings.now)
+    ensures { PutsText (states_text system.now schedule.now endings.now)
         (O.bytes out.old) (O.bytes out.new) (O.failed out.new) result }
 {
     let mut course = Course::start(alloc, system)?;
     let room = room(alloc)?;
     let mut paper = Paper::new(out, room);
-    let schedule = &run_record.schedule;
     let walked = put_all(alloc, &mut paper, system, &mut course, schedule, endings);
     let (out, sent) = paper.finish();
     // No effect at run time. The proof reads what `out` holds from the reference that comes back.

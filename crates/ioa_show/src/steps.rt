@@ -19,32 +19,32 @@ use ioa_compose::Conf;
 use ioa_course::Course;
 use ioa_paper::{Paper, ReportFault, put_entry, room};
 use ioa_rawlog::RawLog;
-use ioa_record::{Ending, Record};
+use ioa_record::Ending;
 use ioa_streams::Out;
 use ioa_system::System;
 use ioa_transitions::Entry;
 use ioa_values::{Names, Value, copies};
 use std::alloc::{AllocError, Global};
 
-/// Puts out the steps of a run as JSON (form: profile), a line each: the action with its arguments, its node, its
+/// Puts out the steps of a schedule as JSON (form: profile), a line each: the action with its arguments, its node, its
 /// number and its text, which variables of the node changed, what the effect chose, if it chose something, and the
 /// queue that took part with its new length. Behind an entry that is no step there is nothing. If memory ran out in the
-/// run, by these endings, a last line says so. `Memory` (3) can come when a beginning is out already.
+/// run, by these endings, a last line says so. A schedule that no run left has no endings. `Memory` (3) can come when a
+/// beginning is out already.
 pub fn json<O: Out>(
     alloc: Global,
     system: &System,
-    run_record: &Record,
+    schedule: &RawLog<Entry>,
     endings: &[Ending],
     out: &mut O,
 ) -> Result<(), ReportFault>
     requires { O.failed out.old ≡ false }
-    ensures { PutsText (steps_text system.now run_record.now.schedule endings.now)
+    ensures { PutsText (steps_text system.now schedule.now endings.now)
         (O.bytes out.old) (O.bytes out.new) (O.failed out.new) result }
 {
     let mut course = Course::start(alloc, system)?;
     let room = room(alloc)?;
     let mut paper = Paper::new(out, room);
-    let schedule = &run_record.schedule;
     let walked = put_all(alloc, &mut paper, system, &mut course, schedule, endings);
     let (out, sent) = paper.finish();
     // No effect at run time. The proof reads what `out` holds from the reference that comes back.
