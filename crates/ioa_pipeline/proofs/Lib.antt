@@ -2,6 +2,7 @@
 pub mod Judged
 pub mod JudgedSchedules
 pub mod Refusals
+pub mod Replays
 pub mod Reported
 pub mod Shown
 pub mod Tellings

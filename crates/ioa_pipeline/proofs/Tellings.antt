@@ -49,7 +49,7 @@ event_kept (idle k n) t = other_kept t.names Idle (find (is_of n) t.waiting) t.p
 event_kept (stopped k n) t = waiting_kept t.names (find (is_of n) t.waiting) t.paper
 event_kept (ended n e) t = (refl, refl)
 
-events_kept : (es : List PlainEvent) (a b : PlainTeller) → AreHeard (λ e x y. y ≡ teller_after e x) es a b
+pub events_kept : (es : List PlainEvent) (a b : PlainTeller) → AreHeard (λ e x y. y ≡ teller_after e x) es a b
     → Continues a.paper b.paper
 events_kept [] a b h = subst (λ (t : PlainTeller). Continues a.paper t.paper) h (refl, refl)
 events_kept (e ∷ es) a b h =

@@ -3,5 +3,6 @@ pub mod Described
 pub mod Judging
 pub mod WholeRun
 pub mod Printing
+pub mod Replaying
 pub mod Tracing
 pub mod ScheduleChecks

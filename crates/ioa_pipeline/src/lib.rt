@@ -1,5 +1,5 @@
-//! Whole runs, from a text to its report; runs shown step by step; checks of schedules, from a text and a schedule to
-//! what is to be said of them; and texts laid out anew. Reading, checking, running, reporting and printing meet here
+//! Whole runs, from a text to its report; runs and schedules shown step by step; checks of schedules, from a text and
+//! a schedule to what is to be said of them; and texts laid out anew. Reading, checking, running, reporting and printing meet here
 //! and nowhere else.
 //!
 //! **A crate of its own**, since it alone stands on all five.
@@ -10,6 +10,7 @@
 mod described;
 mod judging;
 mod printing;
+mod replaying;
 mod schedule_check;
 mod tracing;
 mod whole_run;
@@ -22,6 +23,7 @@ pub use ioa_record::{
 };
 pub use judging::{Judging, judge_text};
 pub use printing::{PrintFault, print_text};
+pub use replaying::{ReplayFault, trace_schedule};
 pub use schedule_check::{CheckScheduleFault, check_text};
 pub use tracing::{Format, TraceFault, trace_text};
 pub use whole_run::{RunFault, run_system};

@@ -110,10 +110,10 @@ fn show<O: Out>(
 {
     match format {
         Format::Text => tell_as_text(alloc, system, options, run_record, endings, out),
-        Format::Json => shown(json(alloc, system, run_record, endings, out)),
-        Format::States => shown(itf(alloc, system, run_record, endings, out)),
-        Format::Diagram => shown(svg(alloc, system, run_record, endings, out)),
-        Format::Sequence => shown(mermaid(alloc, system, run_record, endings, out)),
+        Format::Json => shown(json(alloc, system, &run_record.schedule, endings, out)),
+        Format::States => shown(itf(alloc, system, &run_record.schedule, endings, out)),
+        Format::Diagram => shown(svg(alloc, system, &run_record.schedule, endings, out)),
+        Format::Sequence => shown(mermaid(alloc, system, &run_record.schedule, endings, out)),
     }
 }
 
