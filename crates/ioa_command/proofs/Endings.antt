@@ -21,6 +21,8 @@ use Rattle.ioa_pipeline.specs.declared.printing.PrintFault.{PrintFault}
 use Rattle.ioa_pipeline.specs.declared.printing.PrintFault.TheVariants as print
 use Rattle.ioa_pipeline.specs.declared.tracing.TraceFault.{TraceFault}
 use Rattle.ioa_pipeline.specs.declared.tracing.TraceFault.TheVariants as trace
+use Rattle.ioa_pipeline.specs.declared.replaying.ReplayFault.TheVariants as replay
+use Rattle.ioa_schedule_check.specs.declared.fault.ScheduleFault.{ScheduleFault}
 use Rattle.ioa_pipeline.specs.declared.whole_run.RunFault.{RunFault}
 use Rattle.ioa_pipeline.specs.declared.whole_run.RunFault.TheVariants as run
 use Rattle.ioa_pipeline.specs.declared.schedule_check.CheckScheduleFault.{CheckScheduleFault}
@@ -28,6 +30,7 @@ use Rattle.ioa_pipeline.specs.declared.schedule_check.CheckScheduleFault.TheVari
 use Rattle.ioa_command.specs.declared.choice.InputName.{InputName}
 use Rattle.ioa_command.specs.declared.choice.RunChoice.{RunChoice}
 use Rattle.ioa_command.specs.declared.choice.TraceChoice.{TraceChoice}
+use Rattle.ioa_command.specs.declared.choice.ReplayChoice.{ReplayChoice}
 use Rattle.ioa_command.specs.declared.choice.CheckChoice.{CheckChoice}
 use Rattle.ioa_command.specs.declared.choice.Subcommand.TheVariants as subcommand
 use Rattle.ioa_command.specs.declared.faults.TextFault.{TextFault}
@@ -36,6 +39,7 @@ use Rattle.ioa_pipeline.specs.declared.judging.Judging.{Judging}
 use Rattle.ioa_command.specs.Command.{ChecksGivenIn, ChecksIn, IsFound, Judges}
 use Rattle.ioa_command.specs.Command.{Ends, Executes, Follows, IsDone, IsTraced, Output, Prints, PrintsText, Reports}
 use Rattle.ioa_command.specs.Command.{ExplainsAs, ExplainsText, IsExplained, RunsText, ShowsWords, Tells, TracesText}
+use Rattle.ioa_command.specs.Command.{IsReplayed, ReplaysRefused, ReplaysSchedule}
 use Rattle.ioa_command.specs.Command.{explained_status, found_status, no_finding}
 use Rattle.ioa_command.specs.Faults.{check_status, fault_status, input_status, print_status, run_status, trace_status}
 use Rattle.ioa_command.specs.FailOn.{meet}
@@ -137,7 +141,7 @@ words_done words given out err status e error shows done = go (words_status (kin
   where
     go : (n : ℕ) → words_status (kind_of e) ≡ n → IsDone words given out
     go zero is = elim (shows.asked is) [
-      | inl whole ↦ inr (inr (inr (inr (inr (asks words e error is, whole.2)))))
+      | inl whole ↦ inr (inr (inr (inr (inr (inr (asks words e error is, whole.2))))))
       | inr failed ↦ absurd (omega arith)
     ]
     go (suc n) is =
@@ -196,6 +200,13 @@ trace_done given out err status t outcome traced told free =
     let done = done_of_told no_finding err status outcome told free in
     subst (IsTraced t given out) done.1 traced
 
+replay_done : (given : Option (List ℕ)) (out err : Output) (status : ℕ) (r : ReplayChoice)
+    (outcome : Result (Unit {0}) TextFault) → IsReplayed r given out outcome → Tells no_finding err status outcome
+    → IsOfNoFault status → ReplaysSchedule r given out (Ok tt)
+replay_done given out err status r outcome replayed told free =
+    let done = done_of_told no_finding err status outcome told free in
+    subst (IsReplayed r given out) done.1 replayed
+
 -- a status that no fault has is that of what is told of a text, if the words choose `explain`
 explain_done : (words : List Text) (given : Option (List ℕ)) (out err : Output) (status : ℕ) (input : InputName)
     (outcome : Result Finding TextFault) → Chooses words (subcommand.Explain input) → IsExplained input given out outcome
@@ -228,15 +239,21 @@ done_of words given out err status (inl (subcommand.Explain input, chosen, (outc
     inr (inl (explain_done words given out err status input outcome chosen explained told done))
 done_of words given out err status (inl (subcommand.Trace t, chosen, (outcome, traced, told))) done =
     inr (inr (inl (t, chosen, trace_done given out err status t outcome traced told (none_is_one status done))))
+done_of words given out err status (inl (subcommand.Replay r, chosen, (outcome, replayed, told))) done =
+    inr (inr (inr (inl (
+      r,
+      chosen,
+      replay_done given out err status r outcome replayed told (none_is_one status done),
+    ))))
 done_of words given out err status (inl (subcommand.Check c, chosen, (outcome, followed, told))) done =
-    inr (inr (inr (inl (subst (Judges words given out) done
-    (judges words given out err status c outcome chosen followed told (none_is_one status done))))))
+    inr (inr (inr (inr (inl (subst (Judges words given out) done
+    (judges words given out err status c outcome chosen followed told (none_is_one status done)))))))
 done_of words given out err status (inl (subcommand.Print input, chosen, (outcome, printed, told))) done =
-    inr (inr (inr (inr (inl (
+    inr (inr (inr (inr (inr (inl (
       input,
       chosen,
       print_done given out err status input outcome printed told (none_is_one status done),
-    )))))
+    ))))))
 done_of words given out err status (inr said) done =
     words_done words given out err status said.0 said.1 said.2 done
 
@@ -271,6 +288,8 @@ found_of words given out err status (inl (subcommand.Run r, chosen, (outcome, ra
 found_of words given out err status (inl (subcommand.Explain input, chosen, (outcome, explained, told))) four =
     absurd (explain_finds_none err status outcome told four)
 found_of words given out err status (inl (subcommand.Trace t, chosen, (outcome, traced, told))) four =
+    absurd (finds_none no_finding err status outcome (λ x. refl) told four)
+found_of words given out err status (inl (subcommand.Replay r, chosen, (outcome, replayed, told))) four =
     absurd (finds_none no_finding err status outcome (λ x. refl) told four)
 found_of words given out err status (inl (subcommand.Check c, chosen, (outcome, followed, told))) four =
     inr (subst (Judges words given out) four
@@ -411,9 +430,11 @@ found_free fail_on found refuses = by_test (meet fail_on found) refuses
 none_free : (x : Unit {0}) → Refuses (no_finding x) → ⊥
 none_free x refuses = not_done 0 refuses refl
 
--- what a refusal leaves: nothing went out, or an explanation that says so of the text
+-- what a refusal leaves: nothing went out; or an explanation that says so of the text; or what is before the refused
+-- part of a schedule
 abbrev pub LeavesRefused : List Text → Option (List ℕ) → Output → Type 0
-LeavesRefused words given out = Keeps out.old out.new ⊎ ExplainsAs Refused words given out
+LeavesRefused words given out =
+    Keeps out.old out.new ⊎ (ExplainsAs Refused words given out ⊎ ReplaysRefused words given out)
 
 explained_kept : (input : InputName) (given : Option (List ℕ)) (out : Output) (f : TextFault)
     → IsExplained input given out (Err f) → Refuses (fault_status f) → Keeps out.old out.new
@@ -431,9 +452,46 @@ explain_leaves : (words : List Text) (given : Option (List ℕ)) (out err : Outp
 explain_leaves words given out err status input (Ok NothingWrong) chosen explained told refuses =
     absurd (not_done status refuses told.0)
 explain_leaves words given out err status input (Ok Refused) chosen explained told refuses =
-    inr (input, chosen, explained)
+    inr (inl (input, chosen, explained))
 explain_leaves words given out err status input (Err f) chosen explained told refuses = elim told [
   | inl line ↦ inl (explained_kept input given out f explained (subst Refuses line.0 refuses))
+  | inr memory ↦ absurd (not_failed status refuses memory.0)
+]
+
+-- a refused replay of a text that was read: nothing went out, or the schedule is refused
+abbrev IsRefusedReplay : ReplayChoice → Option (List ℕ) → Output → Type 0
+IsRefusedReplay r given out =
+    Keeps out.old out.new ⊎ ((f : ScheduleFault) × ReplaysSchedule r given out (Err (replay.Check (check.Schedule f))))
+
+replay_refused : (r : ReplayChoice) (given : Option (List ℕ)) (out : Output) (f : CheckScheduleFault)
+    → ReplaysSchedule r given out (Err (replay.Check f)) → Refuses (check_status f) → IsRefusedReplay r given out
+replay_refused r given out (check.Front f) replayed refuses = inl (replayed.2.2.0.1)
+replay_refused r given out (check.Check f) replayed refuses = inl (replayed.2.2.0.1)
+replay_refused r given out (check.Schedule f) replayed refuses = inr (f, replayed)
+replay_refused r given out check.Memory replayed refuses = absurd (not_failed 3 refuses refl)
+replay_refused r given out check.Write replayed refuses = absurd (not_failed 3 refuses refl)
+
+replayed_refused : (r : ReplayChoice) (given : Option (List ℕ)) (out : Output) (f : TextFault)
+    → IsReplayed r given out (Err f) → Refuses (fault_status f) → IsRefusedReplay r given out
+replayed_refused r given out (Input f) replayed refuses = inl replayed.1.1
+replayed_refused r given out (Unread name) replayed refuses = inl replayed.1.1
+replayed_refused r given out (Run f) replayed refuses = absurd replayed
+replayed_refused r given out (Explain f) replayed refuses = absurd replayed
+replayed_refused r given out (Trace (trace.Run f)) replayed refuses = absurd replayed
+replayed_refused r given out (Trace trace.Differs) replayed refuses = absurd (not_failed 3 refuses refl)
+replayed_refused r given out (Check f) replayed refuses = replay_refused r given out f replayed refuses
+replayed_refused r given out (Print f) replayed refuses = absurd replayed
+
+replay_leaves : (words : List Text) (given : Option (List ℕ)) (out err : Output) (status : ℕ) (r : ReplayChoice)
+    (outcome : Result (Unit {0}) TextFault) → Chooses words (subcommand.Replay r) → IsReplayed r given out outcome
+    → Tells no_finding err status outcome → Refuses status → LeavesRefused words given out
+replay_leaves words given out err status r (Ok x) chosen replayed told refuses =
+    absurd (not_done status refuses told.0)
+replay_leaves words given out err status r (Err f) chosen replayed told refuses = elim told [
+  | inl line ↦ elim (replayed_refused r given out f replayed (subst Refuses line.0 refuses)) [
+    | inl kept ↦ inl kept
+    | inr refused ↦ inr (inr (r, chosen, refused))
+  ]
   | inr memory ↦ absurd (not_failed status refuses memory.0)
 ]
 
@@ -447,6 +505,8 @@ refused_of words given out err status (inl (subcommand.Explain input, chosen, (o
 refused_of words given out err status (inl (subcommand.Trace t, chosen, (outcome, traced, told))) refuses =
     inl (told_kept no_finding out err status outcome told none_free
     (λ f is. traced_kept t given out f (subst (IsTraced t given out) is traced)) refuses)
+refused_of words given out err status (inl (subcommand.Replay r, chosen, (outcome, replayed, told))) refuses =
+    replay_leaves words given out err status r outcome chosen replayed told refuses
 refused_of words given out err status (inl (subcommand.Check c, chosen, (outcome, followed, told))) refuses =
     inl (told_kept (found_status c.fail_on) out err status outcome told (found_free c.fail_on)
     (λ f is. followed_kept c given out f (subst (Follows c given out) is followed)) refuses)

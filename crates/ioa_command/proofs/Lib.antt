@@ -1,4 +1,6 @@
+mod Chosen
 mod CommaWords
 mod CommandLine
 mod Endings
 pub mod Readings
+pub mod Replays

@@ -28,7 +28,7 @@ use Rattle.ioa_command.specs.Inputs.{IsTextWithin, IsUnread, KeepsStandard, behi
 use Rattle.ioa_command.specs.Inputs.{schedule_limit, shown_name}
 
 -- a fault of reading
-abbrev IsReading : TextFault → Type 0
+abbrev pub IsReading : TextFault → Type 0
 IsReading (Input f) = Unit {0}
 IsReading (Unread name) = Unit {0}
 IsReading (Run f) = ⊥
@@ -65,10 +65,10 @@ reading_within limit (File of) given (Trace f) h = absurd h
 reading_within limit (File of) given (Check f) h = absurd h
 reading_within limit (File of) given (Print f) h = absurd h
 
-is_reading : (input : InputName) (given : Option (List ℕ)) (f : TextFault) → IsFaultOfInput input given f → IsReading f
+pub is_reading : (input : InputName) (given : Option (List ℕ)) (f : TextFault) → IsFaultOfInput input given f → IsReading f
 is_reading input given f h = reading_within INPUT_LIMIT input given f h
 
-is_reading_long : (input : InputName) (given : Option (List ℕ)) (f : TextFault) → IsFaultOfLong input given f
+pub is_reading_long : (input : InputName) (given : Option (List ℕ)) (f : TextFault) → IsFaultOfLong input given f
     → IsReading f
 is_reading_long input given f h = reading_within SCHEDULE_LIMIT input given f h
 
@@ -183,14 +183,14 @@ checked_given judging text lines s given out (Err (Check f)) t h = (lines, t, h)
 checked_given judging text lines s given out (Err (Print f)) t h = absurd h
 
 -- what is known of an input that is read behind another
-text_behind : (limit : ℕ) (input s : InputName) (old mid : Option (List ℕ)) (text : List ℕ)
+pub text_behind : (limit : ℕ) (input s : InputName) (old mid : Option (List ℕ)) (text : List ℕ)
     → KeepsStandard input old mid → IsTextWithin limit (given_by s mid) text
     → IsTextWithin limit (given_behind input s old) text
 text_behind limit Standard Standard old mid text kept h = (h.0, h.1, tt)
 text_behind limit Standard (File name) old mid text kept h = h
 text_behind limit (File of) s old mid text kept h = subst (λ m. IsTextWithin limit (given_by s m) text) kept h
 
-fault_behind : (input s : InputName) (old mid : Option (List ℕ)) (f : TextFault) → KeepsStandard input old mid
+pub fault_behind : (input s : InputName) (old mid : Option (List ℕ)) (f : TextFault) → KeepsStandard input old mid
     → IsFaultOfLong s mid f → IsFaultOfLong s (behind input old) f
 fault_behind Standard Standard old mid (Input f) kept h = (tt, h.1)
 fault_behind Standard Standard old mid (Unread name) kept h = absurd h

@@ -19,6 +19,13 @@ use Rattle.ioa_pipeline.specs.declared.printing.PrintFault.{PrintFault}
 use Rattle.ioa_pipeline.specs.declared.tracing.TraceFault.{TraceFault}
 use Rattle.ioa_pipeline.specs.declared.whole_run.RunFault.{RunFault}
 use Rattle.ioa_pipeline.specs.declared.schedule_check.CheckScheduleFault.{CheckScheduleFault}
+use Rattle.ioa_pipeline.specs.declared.tracing.Format.{Format}
+use Rattle.ioa_pipeline.specs.declared.tracing.TraceFault.TheVariants as trace
+use Rattle.ioa_pipeline.specs.declared.replaying.ReplayFault.{ReplayFault}
+use Rattle.ioa_pipeline.specs.declared.replaying.ReplayFault.TheVariants as replay
+use Rattle.ioa_pipeline.specs.declared.schedule_check.CheckScheduleFault.TheVariants.{Schedule}
+use Rattle.ioa_schedule_check.specs.declared.fault.ScheduleFault.{ScheduleFault}
+use Rattle.ioa_pipeline.specs.Replaying.{IsExactForReplay, IsFaultOfReplay, ShowsReplay}
 use Rattle.ioa_pipeline.specs.Tracing.{IsRefusalOfTrace, ShowsRun}
 use Rattle.ioa_pipeline.specs.Printing.{IsFaultOfPrint, PrintsAnew}
 use Rattle.ioa_pipeline.specs.WholeRun.{IsExactFor, IsFaultOfWorkers, IsRefusalOf, WritesReport}
@@ -28,6 +35,7 @@ use Rattle.ioa_pipeline.specs.ScheduleChecks.{IsExactForCheck, IsFaultOfCheck}
 use Rattle.ioa_command.specs.declared.choice.InputName.{InputName}
 use Rattle.ioa_command.specs.declared.choice.RunChoice.{RunChoice}
 use Rattle.ioa_command.specs.declared.choice.TraceChoice.{TraceChoice}
+use Rattle.ioa_command.specs.declared.choice.ReplayChoice.{ReplayChoice}
 use Rattle.ioa_command.specs.declared.choice.CheckChoice.{CheckChoice}
 use Rattle.ioa_command.specs.declared.choice.Subcommand.{Subcommand}
 use Rattle.ioa_command.specs.declared.choice.Subcommand.TheVariants as subcommand
@@ -214,6 +222,57 @@ IsTraced t given out (Err (Trace f)) = TracesText t given out (Err f)
 IsTraced t given out (Err (Check f)) = ⊥
 IsTraced t given out (Err (Print f)) = ⊥
 
+-- lines were replayed in a text's system, and the replay was shown; a fault is one of them, and no fault of the text
+-- that is always found is passed over
+abbrev pub ReplaysIn : Format → (text lines : List ℕ) → Output → Result (Unit {0}) ReplayFault → Type 0
+ReplaysIn format text lines out result =
+    ShowsReplay text lines format out.old out.new out.failed result
+    × IfErr result (λ f. IsFaultOfReplay f text lines) × IsExactForReplay result text
+
+-- the schedule in an input of at most so many bytes was replayed
+abbrev pub ReplaysGiven : Format → List ℕ → ℕ → Option (List ℕ) → Output → Result (Unit {0}) ReplayFault → Type 0
+ReplaysGiven format text limit other out result =
+    (lines : List ℕ) × IsTextWithin limit other lines × ReplaysIn format text (schedule_part lines) out result
+
+-- the schedule in one input was replayed in the system of the text in another
+abbrev pub ReplaysSchedule : ReplayChoice → Option (List ℕ) → Output → Result (Unit {0}) ReplayFault → Type 0
+ReplaysSchedule r given out result =
+    (text : List ℕ) × IsTextOf (given_by r.input given) text
+    × ReplaysGiven r.format text (schedule_limit r.schedule) (given_behind r.input r.schedule given) out result
+
+-- why an input of a replay gives no text
+abbrev pub IsFaultOfReplayInputs : ReplayChoice → Option (List ℕ) → TextFault → Type 0
+IsFaultOfReplayInputs r given f =
+    IsFaultOfInput r.input given f ⊎ IsFaultOfLong r.schedule (behind r.input given) f
+
+-- a schedule was replayed in a text's system, if that ends so: nothing went out if its input gives no text
+abbrev pub IsReplayedBy : Format → List ℕ → InputName → Option (List ℕ) → Output → Result (Unit {0}) TextFault → Type 0
+IsReplayedBy format text schedule given out (Ok x) =
+    ReplaysGiven format text (schedule_limit schedule) (given_by schedule given) out (Ok x)
+IsReplayedBy format text schedule given out (Err (Input f)) = IsFaultOfLong schedule given (Input f) × IsKept out
+IsReplayedBy format text schedule given out (Err (Unread name)) =
+    IsFaultOfLong schedule given (Unread name) × IsKept out
+IsReplayedBy format text schedule given out (Err (Run f)) = ⊥
+IsReplayedBy format text schedule given out (Err (Explain f)) = ⊥
+IsReplayedBy format text schedule given out (Err (Trace (trace.Run f))) = ⊥
+IsReplayedBy format text schedule given out (Err (Trace trace.Differs)) =
+    ReplaysGiven format text (schedule_limit schedule) (given_by schedule given) out (Err replay.Differs)
+IsReplayedBy format text schedule given out (Err (Check f)) =
+    ReplaysGiven format text (schedule_limit schedule) (given_by schedule given) out (Err (replay.Check f))
+IsReplayedBy format text schedule given out (Err (Print f)) = ⊥
+
+-- what `trace` read and showed of a schedule, if it ends so: nothing if an input gives no text
+abbrev pub IsReplayed : ReplayChoice → Option (List ℕ) → Output → Result (Unit {0}) TextFault → Type 0
+IsReplayed r given out (Ok x) = ReplaysSchedule r given out (Ok x)
+IsReplayed r given out (Err (Input f)) = IsFaultOfReplayInputs r given (Input f) × IsKept out
+IsReplayed r given out (Err (Unread name)) = IsFaultOfReplayInputs r given (Unread name) × IsKept out
+IsReplayed r given out (Err (Run f)) = ⊥
+IsReplayed r given out (Err (Explain f)) = ⊥
+IsReplayed r given out (Err (Trace (trace.Run f))) = ⊥
+IsReplayed r given out (Err (Trace trace.Differs)) = ReplaysSchedule r given out (Err replay.Differs)
+IsReplayed r given out (Err (Check f)) = ReplaysSchedule r given out (Err (replay.Check f))
+IsReplayed r given out (Err (Print f)) = ⊥
+
 -- the status of a report that was written, or of an execution: 4 if there is a finding at which the status is to tell
 abbrev pub found_status : (fail_on found : Findings) → ℕ
 found_status fail_on found = if meet fail_on found then 4 else 0
@@ -265,6 +324,8 @@ EndsAs (subcommand.Explain input) given out err status =
     × Tells explained_status err status outcome
 EndsAs (subcommand.Trace t) given out err status =
     (outcome : Result (Unit {0}) TextFault) × IsTraced t given out outcome × Tells no_finding err status outcome
+EndsAs (subcommand.Replay r) given out err status =
+    (outcome : Result (Unit {0}) TextFault) × IsReplayed r given out outcome × Tells no_finding err status outcome
 EndsAs (subcommand.Check c) given out err status =
     (outcome : Result Findings TextFault) × Follows c given out outcome
     × Tells (found_status c.fail_on) err status outcome
@@ -307,19 +368,32 @@ abbrev pub Traces : List Text → Option (List ℕ) → Output → Type 0
 Traces words given out =
     (t : TraceChoice) × Chooses words (subcommand.Trace t) × TracesText t given out (Ok tt)
 
+-- the replay of a schedule was shown
+abbrev pub Replays : List Text → Option (List ℕ) → Output → Type 0
+Replays words given out =
+    (r : ReplayChoice) × Chooses words (subcommand.Replay r) × ReplaysSchedule r given out (Ok tt)
+
+-- a schedule was refused, and what is before the refused line or the refused step was shown
+abbrev pub ReplaysRefused : List Text → Option (List ℕ) → Output → Type 0
+ReplaysRefused words given out =
+    (r : ReplayChoice) × Chooses words (subcommand.Replay r)
+    × ((f : ScheduleFault) × ReplaysSchedule r given out (Err (replay.Check (Schedule f))))
+
 -- an explanation went out, and it says so of the text
 abbrev pub ExplainsAs : Finding → List Text → Option (List ℕ) → Output → Type 0
 ExplainsAs f words given out =
     (input : InputName) × Chooses words (subcommand.Explain input) × ExplainsText input given out (Ok f)
 
 -- what status 0 says: the report of the text that was read went out, and it has no finding at which the status is to
--- tell; or nothing is wrong with the text; or its run was shown; or the schedule that was read is an execution of the
--- text's system, and has no such finding; or the text went out laid out anew; or a text for which the words ask
+-- tell; or nothing is wrong with the text; or its run was shown, or the replay of the schedule that was read; or that
+-- schedule is an execution of the text's system, and has no such finding; or the text went out laid out anew; or a text
+-- for which the words ask
 abbrev pub IsDone : List Text → Option (List ℕ) → Output → Type 0
 IsDone words given out =
     Reports words given out 0
     ⊎ (ExplainsAs NothingWrong words given out
     ⊎ (Traces words given out
+    ⊎ (Replays words given out
     ⊎ (Judges words given out 0
     ⊎ (((input : InputName) × Chooses words (subcommand.Print input) × PrintsText (given_by input given) out (Ok tt))
-    ⊎ (AsksForText words × ShowsText out)))))
+    ⊎ (AsksForText words × ShowsText out))))))

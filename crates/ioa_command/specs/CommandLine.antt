@@ -29,9 +29,10 @@ use Rattle.ioa_command.specs.declared.choice.InputName.{InputName}
 use Rattle.ioa_command.specs.declared.choice.InputName.TheVariants.{Standard, File}
 use Rattle.ioa_command.specs.declared.choice.RunChoice.{RunChoice}
 use Rattle.ioa_command.specs.declared.choice.TraceChoice.{TraceChoice}
+use Rattle.ioa_command.specs.declared.choice.ReplayChoice.{ReplayChoice}
 use Rattle.ioa_command.specs.declared.choice.CheckChoice.{CheckChoice}
 use Rattle.ioa_command.specs.declared.choice.Subcommand.{Subcommand}
-use Rattle.ioa_command.specs.declared.choice.Subcommand.TheVariants.{Run, Explain, Trace, Check, Print}
+use Rattle.ioa_command.specs.declared.choice.Subcommand.TheVariants.{Run, Explain, Trace, Replay, Check, Print}
 use Rattle.ioa_command.specs.FailOn.{findings_named, no_findings}
 
 -- `--name N`, a number that a parser takes; if it is not given, another text is read in its place
@@ -73,11 +74,15 @@ explain_app = with_rule (new_app (codes "explain")) (word_rule (codes "file"))
 abbrev pub format_rule : Rule
 format_rule = record (new_rule (codes "format")) { long = Some (codes "format"); value_names = 1 }
 
--- `trace FILE --steps N --attempts N --format NAME`
+-- `trace FILE SCHEDULE --steps N --attempts N --format NAME`
 abbrev pub trace_app : App
 trace_app =
     with_rule
-    (with_rule (with_rule (with_rule (new_app (codes "trace")) (word_rule (codes "file"))) steps_rule) attempts_rule)
+    (with_rule
+    (with_rule
+    (with_rule (with_rule (new_app (codes "trace")) (word_rule (codes "file"))) (word_rule (codes "schedule")))
+    steps_rule)
+    attempts_rule)
     format_rule
 
 -- `--verdicts`
@@ -169,9 +174,14 @@ pub record AreLimitsOf (rows : List Row) (o : PlainOptions) : Type 0 where
   pub attempts : IsNumberOf rows (codes "attempts") o.attempts
   pub range : AreInRange o.workers o.steps o.attempts
 
--- what the matches of `trace` choose
+-- the file of a schedule that has a word of its own, and none of it if the word is `-`; nothing if there is no word
+abbrev pub schedule_given : List Row → Option (Option Text)
+schedule_given rows = option_map input_named (first_of (codes "schedule") rows)
+
+-- what the matches of `trace` choose if no schedule is named
 pub record IsTraceOf (rows : List Row) (t : TraceChoice) : Type 0 where
   pub input : name_of t.input ≡ input_given (first_of (codes "file") rows)
+  pub schedule : schedule_given rows ≡ None
   pub options : AreLimitsOf rows t.options
   pub format : format_given (first_of (codes "format") rows) ≡ Some t.format
 
@@ -187,6 +197,25 @@ ReadsApart (File name) other = ⊤
 ReadsApart Standard None = ⊤
 ReadsApart Standard (Some (File name)) = ⊤
 ReadsApart Standard (Some Standard) = ⊥
+
+-- what the matches of `trace` choose if a schedule is named; the two numbers are in their range, and nothing is done
+-- with them
+pub record IsReplayOf (rows : List Row) (r : ReplayChoice) : Type 0 where
+  pub input : name_of r.input ≡ input_given (first_of (codes "file") rows)
+  pub schedule : schedule_given rows ≡ Some (name_of r.schedule)
+  pub limits : PlainOptions
+  pub within : AreLimitsOf rows limits
+  pub format : format_given (first_of (codes "format") rows) ≡ Some r.format
+  pub apart : ReadsApart r.input (Some r.schedule)
+
+-- what the matches of `trace` choose: a run or a replay
+abbrev pub IsOfTrace : List Row → Subcommand → Type 0
+IsOfTrace rows (Run r) = ⊥
+IsOfTrace rows (Explain input) = ⊥
+IsOfTrace rows (Trace t) = IsTraceOf rows t
+IsOfTrace rows (Replay r) = IsReplayOf rows r
+IsOfTrace rows (Check c) = ⊥
+IsOfTrace rows (Print input) = ⊥
 
 -- findings, if no ending is among them
 abbrev pub only_verdicts : Option Findings → Option Findings
@@ -211,7 +240,7 @@ pub record IsCheckOf (rows : List Row) (c : CheckChoice) : Type 0 where
   pub input : name_of c.input ≡ input_given (first_of (codes "file") rows)
   pub fail_on : verdict_findings_given (first_of (codes "fail-on") rows) ≡ Some c.fail_on
   pub judging : c.judging ≡ judging_of (flag_given (first_of (codes "verdicts") rows)) c.fail_on
-  pub schedule : option_map name_of c.schedule ≡ option_map input_named (first_of (codes "schedule") rows)
+  pub schedule : option_map name_of c.schedule ≡ schedule_given rows
   pub apart : ReadsApart c.input c.schedule
 
 -- the subcommand that the matches name, with what it is asked to do
@@ -221,6 +250,7 @@ IsChosenBy (Some (name, rows)) (Run r) = (name ≡ codes "run") × IsRunOf rows 
 IsChosenBy (Some (name, rows)) (Explain input) =
     (name ≡ codes "explain") × (name_of input ≡ input_given (first_of (codes "file") rows))
 IsChosenBy (Some (name, rows)) (Trace t) = (name ≡ codes "trace") × IsTraceOf rows t
+IsChosenBy (Some (name, rows)) (Replay r) = (name ≡ codes "trace") × IsReplayOf rows r
 IsChosenBy (Some (name, rows)) (Check c) = (name ≡ codes "check") × IsCheckOf rows c
 IsChosenBy (Some (name, rows)) (Print input) =
     (name ≡ codes "print") × (name_of input ≡ input_given (first_of (codes "file") rows))

@@ -9,6 +9,8 @@ use Rattle.ioa_explain.specs.declared.fault.ExplainFault.TheVariants as explain
 use Rattle.ioa_pipeline.specs.Printing.{print_fault_text}
 use Rattle.ioa_pipeline.specs.declared.tracing.TraceFault.{TraceFault}
 use Rattle.ioa_pipeline.specs.declared.tracing.TraceFault.TheVariants as trace
+use Rattle.ioa_pipeline.specs.declared.replaying.ReplayFault.{ReplayFault}
+use Rattle.ioa_pipeline.specs.declared.replaying.ReplayFault.TheVariants as replay
 use Rattle.ioa_pipeline.specs.WholeRun.{run_fault_text}
 use Rattle.ioa_pipeline.specs.ScheduleChecks.{check_schedule_fault_text}
 use Rattle.ioa_pipeline.specs.declared.printing.PrintFault.{PrintFault}
@@ -87,6 +89,11 @@ trace_status trace.Differs = 3
 abbrev pub trace_line : TraceFault → List ℕ
 trace_line (trace.Run f) = run_line f
 trace_line trace.Differs = codes "refused 51 Differs"
+
+-- why a schedule was not shown whole: as `check` tells it, or as `trace` does if what is told is not the schedule
+abbrev pub fault_of_replay : ReplayFault → TextFault
+fault_of_replay (replay.Check f) = Check f
+fault_of_replay replay.Differs = Trace trace.Differs
 
 -- the line if it was not told what is wrong with a text: a write has `failed`, want of memory is `refused`
 abbrev pub explain_line : ExplainFault → List ℕ

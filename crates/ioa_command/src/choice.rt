@@ -37,6 +37,17 @@ pub struct TraceChoice {
     pub format: Format,
 }
 
+/// What `trace` is asked to do with a schedule.
+#[derive(Debug, Drop)]
+pub struct ReplayChoice {
+    /// Where the text is read.
+    pub input: InputName,
+    /// Where the schedule is read.
+    pub schedule: InputName,
+    /// How the replay is shown.
+    pub format: Format,
+}
+
 /// What `check` is asked to do.
 #[derive(Debug, Drop)]
 pub struct CheckChoice {
@@ -59,6 +70,8 @@ pub enum Subcommand {
     Explain(InputName),
     /// `trace`: run the system of a text, and show the run step by step, or as a picture.
     Trace(TraceChoice),
+    /// `trace` with a schedule: replay it, and show the replay.
+    Replay(ReplayChoice),
     /// `check`: say whether a schedule is an execution of a text's system.
     Check(CheckChoice),
     /// `print`: write a text laid out anew.

@@ -5,6 +5,7 @@ ghost use Rattle.std.specs.Io.KnownBytes.{Keeps};
 ghost use Rattle.std.specs.String.{string_bytes};
 ghost use Rattle.clap.specs.Values.{kind_of};
 ghost use Rattle.ioa_streams.specs.Parts.{lines_part, text_part};
+ghost use Rattle.ioa_streams.specs.ScheduleParts.{schedule_part};
 ghost use Rattle.ioa_monitor.specs.declared.findings.Findings.{Findings};
 ghost use Rattle.ioa_command.specs.declared.faults.TextFault.{TextFault};
 ghost use Rattle.ioa_command.specs.Command.{Ends, EndsAs, Executes, Follows, IsChecked, IsCheckedBy, IsDone, Prints};
@@ -12,15 +13,17 @@ ghost use Rattle.ioa_command.specs.Command.{Tells};
 ghost use Rattle.ioa_command.specs.Command.{IsFound, Shows, ShowsAsked, ShowsLine, ShowsWords, found_status};
 ghost use Rattle.ioa_command.specs.Command.{no_finding, output};
 ghost use Rattle.ioa_command.specs.Command.{ExplainsAs, IsExplained, IsTraced, explained_status, memory_line};
+ghost use Rattle.ioa_command.specs.Command.{IsReplayed, ReplaysRefused};
 ghost use Rattle.ioa_explain.specs.declared.explaining.Finding.{Finding};
 ghost use Rattle.ioa_explain.specs.declared.explaining.Finding.TheVariants.{Refused};
 ghost use Rattle.ioa_command.specs.Faults.{fault_line, fault_status};
 ghost use Rattle.ioa_command.specs.CommandLine.{words_status};
 
-use crate::choice::{CheckChoice, InputName, RunChoice, Subcommand, TraceChoice};
+use crate::choice::{CheckChoice, InputName, ReplayChoice, RunChoice, Subcommand, TraceChoice};
 use crate::fail_on::meet;
 use crate::faults::{FAILED, REFUSED, TextFault, fault_line, fault_status};
 use crate::inputs::{schedule_of, shown_name, text_of};
+use crate::replaying::replay_from;
 use crate::words::options;
 use clap::Error;
 use clap::error::ErrorKind;
@@ -44,15 +47,16 @@ const FOUND: u8 = 4;
 
 /// The program (profile): `words` are those of the command line, its own name first, and choose what it does. `run`
 /// reads a text, runs its system by workers in this runtime, and writes the report. `explain` reads a text and tells
-/// what is wrong with it. `trace` reads a text, runs its system by one worker, and shows the run. `check` reads a text
-/// and a schedule, and says whether the schedule is an execution, with the verdicts along it if the words ask for them.
-/// `print` reads a text and writes it laid out anew. A text is read from the file that is named, else from `reader`.
-/// Returns the status: 0 if all was done, or if the help or the version for which the words ask was shown; 1 if the
-/// text or the schedule was refused; 2 if the words were refused; 3 if memory ran out, what several workers left could
-/// not be put together, or reading or writing failed; and 4 if the report was written or the schedule is an execution,
-/// and has what `--fail-on` names. If it is 1, 2 or 3, `err` says why, but where `explain` says it on `out`; a fault of
-/// `err` is ignored. If there is no memory for what it has to say, the status is 3 and a line says so. The gate is
-/// called between the steps of `run`'s workers, so who watches the program sees how far it has come.
+/// what is wrong with it. `trace` reads a text, runs its system by one worker, and shows the run; or it reads a
+/// schedule too, and shows its replay in place of a run, up to what is no step. `check` reads a text and a schedule,
+/// and says whether the schedule is an execution, with the verdicts along it if the words ask for them. `print` reads a
+/// text and writes it laid out anew. A text is read from the file that is named, else from `reader`. Returns the
+/// status: 0 if all was done, or if the help or the version for which the words ask was shown; 1 if the text or the
+/// schedule was refused; 2 if the words were refused; 3 if memory ran out, what several workers left could not be put
+/// together, or reading or writing failed; and 4 if the report was written or the schedule is an execution, and has
+/// what `--fail-on` names. If it is 1, 2 or 3, `err` says why, but where `explain` says it on `out`; a fault of `err`
+/// is ignored. If there is no memory for what it has to say, the status is 3 and a line says so. The gate is called
+/// between the steps of `run`'s workers, so who watches the program sees how far it has come.
 pub fn command<'a, R: Files + Threads + Wait + Sync, G: Gate + Sync, I: Read, O: Out, E: Out>(
     rt: &R,
     alloc: Global,
@@ -71,8 +75,10 @@ pub fn command<'a, R: Files + Threads + Wait + Sync, G: Gate + Sync, I: Read, O:
     ensures found { result ≡ 4 → IsFound (map (λ w. w.now) words.entry.now) (I.remaining reader.old)
         (output (O.bytes out.old) (O.bytes out.new) (O.failed out.new)) }
     ensures refused { (result ≡ 1) ⊎ (result ≡ 2) → Keeps (O.bytes out.old) (O.bytes out.new)
-        ⊎ ExplainsAs Refused (map (λ w. w.now) words.entry.now) (I.remaining reader.old)
-        (output (O.bytes out.old) (O.bytes out.new) (O.failed out.new)) }
+        ⊎ (ExplainsAs Refused (map (λ w. w.now) words.entry.now) (I.remaining reader.old)
+        (output (O.bytes out.old) (O.bytes out.new) (O.failed out.new))
+        ⊎ ReplaysRefused (map (λ w. w.now) words.entry.now) (I.remaining reader.old)
+        (output (O.bytes out.old) (O.bytes out.new) (O.failed out.new))) }
     // of which fault the status and what is shown are
     ensures ends { Ends (map (λ w. w.now) words.entry.now) (I.remaining reader.old)
         (output (O.bytes out.old) (O.bytes out.new) (O.failed out.new))
@@ -123,6 +129,7 @@ fn obey<R: Files + Threads + Wait + Sync, G: Gate + Sync, I: Read, O: Out, E: Ou
         Subcommand::Run(choice) => run_text(rt, alloc, choice, gate, reader, out, err),
         Subcommand::Explain(input) => explain_text(rt, alloc, input, reader, out, err),
         Subcommand::Trace(choice) => show_run(rt, alloc, choice, reader, out, err),
+        Subcommand::Replay(choice) => show_replay(rt, alloc, choice, reader, out, err),
         Subcommand::Check(choice) => check_lines(rt, alloc, choice, reader, out, err),
         Subcommand::Print(input) => print_again(rt, alloc, input, reader, out, err),
     }
@@ -207,6 +214,25 @@ fn show_run<R: Files + Threads + Wait + Sync, I: Read, O: Out, E: Out>(
         × Tells no_finding (output (E.bytes err.old) (E.bytes err.new) (E.failed err.new)) result outcome }
 {
     let outcome = trace_from(rt, alloc, choice, reader, out);
+    tell(alloc, &outcome, err)
+}
+
+/// Shows the replay of a schedule, and tells of a fault.
+fn show_replay<R: Files, I: Read, O: Out, E: Out>(
+    rt: &R,
+    alloc: Global,
+    choice: &ReplayChoice,
+    reader: &mut I,
+    out: &mut O,
+    err: &mut E,
+) -> u8
+    requires out { O.failed out.old ≡ false }
+    requires err { E.failed err.old ≡ false }
+    ensures { (outcome : Result (Unit {0}) TextFault) × IsReplayed choice.now (I.remaining reader.old)
+        (output (O.bytes out.old) (O.bytes out.new) (O.failed out.new)) outcome
+        × Tells no_finding (output (E.bytes err.old) (E.bytes err.new) (E.failed err.new)) result outcome }
+{
+    let outcome = replay_from(rt, alloc, choice, reader, out);
     tell(alloc, &outcome, err)
 }
 
@@ -411,7 +437,23 @@ fn follow_apart<R: Files, I: Read, O: Out>(
         (output (O.bytes out.old) (O.bytes out.new) (O.failed out.new)) result }
 {
     let lines = schedule_of(rt, alloc, schedule, reader)?;
-    judge_lines(alloc, text, schedule_part(lines.as_str()), judging, out)
+    judge_part(alloc, text, lines.as_str(), judging, out)
+}
+
+/// Says whether the lines that a schedule has in an input are an execution of a text's system.
+fn judge_part<O: Out>(
+    alloc: Global,
+    text: &str,
+    input: &str,
+    judging: Judging,
+    out: &mut O,
+) -> Result<Findings, TextFault>
+    requires { O.failed out.old ≡ false }
+    ensures { IsChecked judging text.now (schedule_part input.now)
+        (output (O.bytes out.old) (O.bytes out.new) (O.failed out.new)) result }
+{
+    let lines = schedule_part(input);
+    judge_lines(alloc, text, lines, judging, out)
 }
 
 /// Reads a text and writes it laid out anew.

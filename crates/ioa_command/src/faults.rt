@@ -5,7 +5,7 @@ ghost use Rattle.std.specs.String.{string_bytes};
 ghost use Rattle.ioa_command.specs.Faults as spec;
 
 use ioa_explain::ExplainFault;
-use ioa_pipeline::{CheckScheduleFault, PrintFault, RunFault, TraceFault};
+use ioa_pipeline::{CheckScheduleFault, PrintFault, ReplayFault, RunFault, TraceFault};
 use ioa_streams::InputFault;
 use std::alloc::{AllocError, Global};
 
@@ -32,6 +32,16 @@ pub(crate) enum TextFault {
     Check(CheckScheduleFault),
     /// The text was not laid out anew.
     Print(PrintFault),
+}
+
+/// The fault of a schedule that was not shown whole.
+pub(crate) fn fault_of_replay(fault: ReplayFault) -> TextFault
+    ensures { result ≡ spec.fault_of_replay fault }
+{
+    match fault {
+        ReplayFault::Check(fault) => TextFault::Check(fault),
+        ReplayFault::Differs => TextFault::Trace(TraceFault::Differs),
+    }
 }
 
 /// The status of a fault.

@@ -11,9 +11,10 @@ mod fail_on;
 mod faults;
 mod formats;
 mod inputs;
+mod replaying;
 mod words;
 
-pub use choice::{CheckChoice, InputName, RunChoice, Subcommand, TraceChoice};
+pub use choice::{CheckChoice, InputName, ReplayChoice, RunChoice, Subcommand, TraceChoice};
 pub use command_line::{BAD_WORDS, command};
 pub use faults::FAILED;
 pub use ioa_pipeline::Gate;

@@ -1,6 +1,6 @@
 //! What the words of the command line choose.
 
-ghost use Rattle.std.specs.Prelude.{◌≡◌, ◌<◌, ◌^◌, Some, codes, false, map, option_map, IfOk, IfErr};
+ghost use Rattle.std.specs.Prelude.{◌≡◌, ◌<◌, ◌^◌, None, Some, codes, false, map, option_map, IfOk, IfErr};
 ghost use Rattle.clap.specs.Matches.{found_of};
 ghost use Rattle.clap.specs.Walk.{first_of, rows_of};
 ghost use Rattle.clap.specs.Simple.{with_rule, with_subcommand};
@@ -11,13 +11,14 @@ ghost use Rattle.ioa_command.specs.CommandLine.{number_rule, word_rule, workers_
 ghost use Rattle.ioa_command.specs.CommandLine.{check_app, explain_app, print_app, run_app, trace_app, program_app};
 ghost use Rattle.ioa_command.specs.CommandLine.{fail_on_rule, format_rule, verdicts_rule};
 ghost use Rattle.ioa_command.specs.CommandLine.{Chooses, IsCheckOf, IsChosenBy, IsErrorOf, IsNumberOf, IsRunOf};
-ghost use Rattle.ioa_command.specs.CommandLine.{IsTraceOf};
+ghost use Rattle.ioa_command.specs.CommandLine.{IsOfTrace, IsReplayOf, IsTraceOf};
 ghost use Rattle.ioa_command.specs.CommandLine as spec;
 ghost use Rattle.ioa_command.specs.CommandLine.{AreLimitsOf, AreNumbersOf, name_of};
 ghost use Rattle.ioa_command.specs.Choices.{Finds, Settles};
 
 use crate::choice::{
-    CheckChoice, ChoiceFault, InputName, RunChoice, Subcommand, TraceChoice, WordsFault,
+    CheckChoice, ChoiceFault, InputName, ReplayChoice, RunChoice, Subcommand, TraceChoice,
+    WordsFault,
 };
 use crate::fail_on::{findings_named, no_findings};
 use crate::formats::format_named;
@@ -77,8 +78,13 @@ changed, and each fire that was missed with the reason. The other formats are fo
 `json` is an object a line for each action; `itf` the states in the informal trace format, which viewers
 of model checkers read; `svg` a space-time diagram; `mermaid` a sequence diagram.
 
+If a SCHEDULE is named, a report or lines as `ioarun check` takes them, its actions are replayed and
+shown in place of a run, up to the first that is no step; as text the reason stands below them. Then
+--steps and --attempts do not count.
+
 Examples:
   ioarun trace examples/missed.ioa
+  ioarun run --workers 4 examples/two_holders.ioa | ioarun trace examples/two_holders.ioa -
   ioarun trace --format svg examples/relay3.ioa > relay3.svg";
 
 /// What is shown at the end of the help of `check`.
@@ -207,10 +213,11 @@ fn trace<'a>(alloc: Global) -> Result<Command<'a>, AllocError>
 {
     let command = Command::new(alloc, "trace")
         .about(
-            "Runs the system of a text by one worker, and shows the run step by step, or as a picture",
+            "Shows a run by one worker, or the replay of a schedule, step by step or as a picture",
         )
         .after_help(TRACE_EXAMPLE)
-        .arg(file_word(alloc))?;
+        .arg(file_word(alloc))?
+        .arg(schedule_word(alloc))?;
     with_limits(alloc, command)?.arg(format_option(alloc))
 }
 
@@ -383,7 +390,7 @@ fn choice_named(
     } else if name == "explain" {
         Ok(Subcommand::Explain(input_given(alloc, matches)?))
     } else if name == "trace" {
-        trace_choice(alloc, matches).map(Subcommand::Trace)
+        shown_choice(alloc, matches)
     } else if name == "check" {
         check_choice(alloc, matches).map(Subcommand::Check)
     } else if name == "print" {
@@ -421,8 +428,19 @@ fn options_given(matches: &ArgMatches<'_>) -> Option<Options>
     Options::within(workers, steps, attempts)
 }
 
-/// What `trace` is asked to do.
+/// What `trace` is asked to do: a replay if a schedule is named, and else a run.
+fn shown_choice(alloc: Global, matches: &ArgMatches<'_>) -> Result<Subcommand, ChoiceFault>
+    ensures { Settles (IsOfTrace (rows_of (found_of matches.now))) result }
+{
+    match schedule_given(alloc, matches)? {
+        None => trace_choice(alloc, matches).map(Subcommand::Trace),
+        Some(schedule) => replay_choice(alloc, matches, schedule).map(Subcommand::Replay),
+    }
+}
+
+/// What `trace` is asked to do if no schedule is named.
 fn trace_choice(alloc: Global, matches: &ArgMatches<'_>) -> Result<TraceChoice, ChoiceFault>
+    requires { spec.schedule_given (rows_of (found_of matches.now)) ≡ None }
     ensures { Settles (IsTraceOf (rows_of (found_of matches.now))) result }
 {
     let Some(options) = limits_given(matches) else {
@@ -437,6 +455,34 @@ fn trace_choice(alloc: Global, matches: &ArgMatches<'_>) -> Result<TraceChoice, 
         options,
         format,
     })
+}
+
+/// What `trace` is asked to do with this schedule.
+fn replay_choice(
+    alloc: Global,
+    matches: &ArgMatches<'_>,
+    schedule: InputName,
+) -> Result<ReplayChoice, ChoiceFault>
+    requires { spec.schedule_given (rows_of (found_of matches.now)) ≡ Some (name_of schedule) }
+    ensures { Settles (IsReplayOf (rows_of (found_of matches.now))) result }
+{
+    let Some(_limits) = limits_given(matches) else {
+        return Err(ChoiceFault::Nothing(WordsFault::Number));
+    };
+    let Some(format) = format_given(matches) else {
+        return Err(ChoiceFault::Nothing(WordsFault::Format));
+    };
+    let input = input_given(alloc, matches)?;
+    match (&input, &schedule) {
+        (InputName::Standard, InputName::Standard) => {
+            Err(ChoiceFault::Nothing(WordsFault::Twice))
+        }
+        _ => Ok(ReplayChoice {
+            input,
+            schedule,
+            format,
+        }),
+    }
 }
 
 /// The options of one worker, with the two numbers, if each is there and in its range.
@@ -558,8 +604,7 @@ fn input_given(alloc: Global, matches: &ArgMatches<'_>) -> Result<InputName, All
 
 /// Where the schedule is read, if it has a word of its own.
 fn schedule_given(alloc: Global, matches: &ArgMatches<'_>) -> Result<Option<InputName>, AllocError>
-    ensures { IfOk result (λ s. option_map name_of s
-        ≡ option_map spec.input_named (first_of (codes "schedule") (rows_of (found_of matches.now)))) }
+    ensures { IfOk result (λ s. option_map name_of s ≡ spec.schedule_given (rows_of (found_of matches.now))) }
 {
     match word_given(matches, "schedule") {
         None => Ok(None),
