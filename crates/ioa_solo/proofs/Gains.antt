@@ -10,7 +10,7 @@ use Rattle.std.proofs.lemmas.List.Elements.{filter-append}
 use Rattle.std.proofs.lemmas.List.Sums.{sum_by-append, sum_by-set}
 use Rattle.ioa_actions.specs.ActionParts.{node_of}
 use Rattle.ioa_receipts.specs.declared.receipts.Receipt.{Receipt}
-use Rattle.ioa_solo.specs.Hands.{HasEarned, HasGained, HasGainedAt, receipts_of, these_of}
+use Rattle.ioa_solo.specs.Hands.{HasEarned, HasGained, HasGainedAt, receipts_of}
 
 -- of one node, none is made
 pub gained_at_none : (k : ℤ) (before left old new : ℕ) (had has : List Receipt) → left ≤ before → new ≡ old → has ≡ had → HasGainedAt k before left old new had has

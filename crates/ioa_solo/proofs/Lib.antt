@@ -14,6 +14,7 @@ mod ToldTurns
 mod Turns
 pub mod SettledNodes
 mod Rounds
+mod SomeVisits
 mod Runs
 mod SoloRuns
 mod OwnStates

@@ -1,5 +1,5 @@
 -- Rounds that are gone node by node.
-use Rattle.std.proofs.Common.{◌≡◌, refl, sym, ap, ◌∙◌, ℕ, ℤ, zero, suc, ◌+◌, ◌-◌, ◌<◌, ◌≤◌, List, [], ◌∷◌, ◌++◌, map, take, drop, get_or, Bool, true, false, Option, Some, None, length, slice_set, append_assoc, arith}
+use Rattle.std.proofs.Common.{◌≡◌, refl, sym, ap, ◌∙◌, ℕ, zero, suc, ◌+◌, ◌-◌, ◌<◌, List, [], ◌∷◌, ◌++◌, map, take, drop, get_or, Bool, true, false, Option, Some, None, length, slice_set, append_assoc, arith}
 use Rattle.std.specs.Prelude.{◌||◌, is_some, Result, Ok, Err, OnOk, OnErr}
 use Rattle.std.specs.Result.{is_err}
 use Rattle.std.specs.List.{list_all, list_any}

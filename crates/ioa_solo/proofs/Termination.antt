@@ -42,7 +42,7 @@ end_near limit n s p (fires k w vs) h =
     fire_near n (fire_answer limit s.schedule s.states p.program.node (action_fired p.program w vs)) s p h
 
 -- a turn uses no attempt
-KeepsAttempts : ℕ → Result (TurnEnd × PlainProgress) NodeFault → Type 0
+unfoldable pub KeepsAttempts : ℕ → Result (TurnEnd × PlainProgress) NodeFault → Type 0
 KeepsAttempts n (Ok t) = t.1.attempts ≡ n
 KeepsAttempts n (Err f) = Unit {0}
 
@@ -51,7 +51,7 @@ unfolding KeepsAttempts
 reached_keeps p (Ok r) = refl
 reached_keeps p (Err f) = tt
 
-turn_keeps : (p : PlainProgress) (inboxes : Option PlainInboxes) (o : Option Conf) → KeepsAttempts p.attempts (turn_on p inboxes o)
+pub turn_keeps : (p : PlainProgress) (inboxes : Option PlainInboxes) (o : Option Conf) → KeepsAttempts p.attempts (turn_on p inboxes o)
 unfolding KeepsAttempts
 turn_keeps p inboxes None = tt
 turn_keeps p inboxes (Some (Queue q)) = tt

@@ -29,20 +29,20 @@ pub round_begins : (b : PlainBook) (had : List Receipt) (q : PlainPass) (ps : Li
 round_begins b had q ps up = record { goes = goes_nowhere b b had had q refl refl up; first = refl; others = refl }
 
 -- what comes behind the first items
-next_taken : {A : Type 0} (i : ℕ) (xs : List A) (x : A) (more : List A) → x ∷ more ≡ drop i xs → take (suc i) xs ≡ take i xs ++ x ∷ []
+pub next_taken : {A : Type 0} (i : ℕ) (xs : List A) (x : A) (more : List A) → x ∷ more ≡ drop i xs → take (suc i) xs ≡ take i xs ++ x ∷ []
 next_taken zero [] x more h = absurd (cc)
 next_taken {A} zero (y ∷ ys) x more h = let same : x ≡ y = cc in ap (λ (z : A). z ∷ []) (sym same)
 next_taken (suc i) [] x more h = absurd (cc)
 next_taken {A} (suc i) (y ∷ ys) x more h = ap (λ (zs : List A). y ∷ zs) (next_taken i ys x more h)
 
-next_dropped : {A : Type 0} (i : ℕ) (xs : List A) (x : A) (more : List A) → x ∷ more ≡ drop i xs → more ≡ drop (suc i) xs
+pub next_dropped : {A : Type 0} (i : ℕ) (xs : List A) (x : A) (more : List A) → x ∷ more ≡ drop i xs → more ≡ drop (suc i) xs
 next_dropped zero [] x more h = absurd (cc)
 next_dropped zero (y ∷ ys) x more h = cc
 next_dropped (suc i) [] x more h = absurd (cc)
 next_dropped (suc i) (y ∷ ys) x more h = next_dropped i ys x more h
 
 -- if nothing does, they are all
-all_taken : {A : Type 0} (i : ℕ) (xs : List A) → [] ≡ drop i xs → take i xs ≡ xs
+pub all_taken : {A : Type 0} (i : ℕ) (xs : List A) → [] ≡ drop i xs → take i xs ≡ xs
 all_taken zero [] h = refl
 all_taken zero (y ∷ ys) h = absurd (cc)
 all_taken (suc i) [] h = refl

@@ -6,6 +6,7 @@ pub mod Meets
 pub mod Settled
 pub mod SettledProps
 pub mod Solo
+pub mod SomeVisits
 pub mod Told
 pub mod Visits
 pub mod Works

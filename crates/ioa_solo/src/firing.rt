@@ -10,6 +10,7 @@ ghost use Rattle.ioa_turns.specs.NodeTurns.{kept_in, progress_of};
 ghost use Rattle.ioa_solo.specs.Fires.{IsAfterFire, IsProposedIn, failed_by, missed_by, refused_by};
 ghost use Rattle.ioa_solo.specs.Hands.{GainsAt};
 ghost use Rattle.ioa_solo.specs.Solo.{IsEndedBy};
+ghost use Rattle.ioa_solo.specs.SomeVisits.{IsCommitted, MissesAtSome, TakesAtSome};
 ghost use Rattle.ioa_solo.specs.Told.{IsToldTo, WorksOn};
 
 use crate::hand::Hand;
@@ -56,6 +57,8 @@ pub(crate) fn commit<O: Origin, L: Ledger, B: Board<O, L>, G: Gate>(
         IsProposedIn (B.tells board.old) (progress_of node.old).program.node proposal →
         OnOk result (IsAfterFire (B.tells board.old) (progress_of node.old) proposal.entry.action
         (B.tells board.new) (progress_of node.new)) }
+    ensures committed { OnOk result
+        (IsCommitted B.opened proposal (progress_of node.old) (progress_of node.new)) }
     ensures unsettled { IfOk result (λ b. b ≡ false) }
 {
     make_ready(alloc, &mut hand.receipts, spare)?;
@@ -111,6 +114,8 @@ fn commit_tested<O: Origin, L: Ledger, B: Board<O, L>, G: Gate>(
         IsProposedIn (B.tells board.old) (progress_of node.old).program.node proposal →
         OnOk result (IsAfterFire (B.tells board.old) (progress_of node.old) proposal.entry.action
         (B.tells board.new) (progress_of node.new)) }
+    ensures committed { OnOk result
+        (IsCommitted B.opened proposal (progress_of node.old) (progress_of node.new)) }
     ensures unsettled { IfOk result (λ b. b ≡ false) }
 {
     let block = block_for(alloc, &mut hand.receipts, spare)?;
@@ -179,6 +184,8 @@ fn attempt<O: Origin, L: Ledger, B: Board<O, L>>(
     ensures share { hand.new.share ≡ hand.old.share + commits result }
     ensures receipts { hand.new.receipts ≡ hand.old.receipts }
     ensures entry { IfOk result (λ r. r.entry ≡ proposal.entry) }
+    ensures takes { OnOk result (TakesAtSome B.opened proposal) }
+    ensures misses { IfErr result (λ m. MissesAtSome B.opened proposal m) }
     ensures taken { B.told ≡ true → IfOk result (λ r.
         IsTaken (B.tells board.old) proposal hand.old.pass r.index r.entry (B.tells board.new) hand.new.pass) }
     ensures missed { B.told ≡ true → IfErr result (λ m.
@@ -209,6 +216,8 @@ fn attempt_with<O: Origin, L: Ledger, B: Board<O, L>>(
     ensures share { hand.new.share ≡ hand.old.share + commits result }
     ensures receipts { hand.new.receipts ≡ hand.old.receipts }
     ensures entry { IfOk result (λ t. t.receipt.entry ≡ proposal.entry) }
+    ensures takes { OnOk result (TakesAtSome B.opened proposal) }
+    ensures misses { IfErr result (λ m. MissesAtSome B.opened proposal m.why) }
     ensures taken { B.told ≡ true → IfOk result (λ t. IsTaken (B.tells board.old) proposal hand.old.pass
         t.receipt.index t.receipt.entry (B.tells board.new) hand.new.pass) }
     ensures missed { B.told ≡ true → IfErr result (λ m.

@@ -1,12 +1,13 @@
 //! Rounds of a worker.
 
 ghost use Rattle.std.specs.Prelude.{◌≡◌, ◌⊎◌, ◌+◌, None, OnErr, OnOk, map, true};
-ghost use Rattle.std.specs.List.{list_all, list_any};
+ghost use Rattle.std.specs.List.{AllByRecursion, AllZip, list_all, list_any};
 ghost use Rattle.ioa_solo.specs.Fires.{Comes};
 ghost use Rattle.ioa_solo.specs.Hands.{Gains, GainsAt};
 ghost use Rattle.ioa_solo.specs.Solo as spec;
 ghost use Rattle.ioa_solo.specs.Solo.{IsCutShort, IsRoundCut, course_of, ending_of, ending_then, has_ended};
 ghost use Rattle.ioa_solo.specs.Solo.{is_under_way, round, rounds, short_of_memory, visit_unless_ended};
+ghost use Rattle.ioa_solo.specs.SomeVisits.{HasAtMost, IsEnded, IsLeft, IsOver, IsPassedBy, IsSomeVisit};
 ghost use Rattle.ioa_solo.specs.Told.{IsToldTo, WorksOn};
 ghost use Rattle.ioa_solo.specs.Visits.{attempts_left, number_in, numbers_of, progress_in};
 
@@ -34,6 +35,8 @@ pub(crate) fn go_on<O: Origin, L: Ledger, B: Board<O, L>, G: Gate>(
 )
     ensures gained { Gains (attempts_left nodes.old) (λ _. 0) hand.old hand.new }
     ensures numbers { numbers_of nodes.new ≡ numbers_of nodes.old }
+    ensures ended { AllByRecursion (HasAtMost attempts) (map progress_in nodes.old) →
+        AllZip (IsEnded B.opened) (map progress_in nodes.old) (map progress_in nodes.new) }
     ensures goes { IsToldTo B.told (B.tells board.old) hand.old.pass →
         WorksOn (B.tells board.old) hand.old (B.tells board.new) hand.new }
     ensures solo { IsToldTo B.told (B.tells board.old) hand.old.pass →
@@ -67,6 +70,10 @@ fn go_rounds<O: Origin, L: Ledger, B: Board<O, L>, G: Gate>(
     ensures gained { Gains (attempts_left nodes.old) (attempts_left nodes.new) hand.old hand.new }
     ensures numbers { numbers_of nodes.new ≡ numbers_of nodes.old }
     ensures stopped { OnErr result (list_any is_under_way (map progress_in nodes.new) ≡ true) }
+    ensures over { AllByRecursion (HasAtMost attempts) (map progress_in nodes.old) → OnOk result
+        (AllZip (IsOver B.opened) (map progress_in nodes.old) (map progress_in nodes.new)) }
+    ensures left { OnErr result
+        (AllZip (IsLeft B.opened) (map progress_in nodes.old) (map progress_in nodes.new)) }
     ensures goes { IsToldTo B.told (B.tells board.old) hand.old.pass →
         WorksOn (B.tells board.old) hand.old (B.tells board.new) hand.new }
     ensures rounds { IsToldTo B.told (B.tells board.old) hand.old.pass → OnOk result
@@ -109,6 +116,10 @@ fn go_round<O: Origin, L: Ledger, B: Board<O, L>, G: Gate>(
     ensures gained { Gains (attempts_left nodes.old) (attempts_left nodes.new) hand.old hand.new }
     ensures numbers { numbers_of nodes.new ≡ numbers_of nodes.old }
     ensures stopped { OnErr result (list_any is_under_way (map progress_in nodes.new) ≡ true) }
+    ensures passed { OnOk result
+        (AllZip (IsPassedBy B.opened) (map progress_in nodes.old) (map progress_in nodes.new)) }
+    ensures left { OnErr result
+        (AllZip (IsLeft B.opened) (map progress_in nodes.old) (map progress_in nodes.new)) }
     ensures goes { IsToldTo B.told (B.tells board.old) hand.old.pass →
         WorksOn (B.tells board.old) hand.old (B.tells board.new) hand.new }
     ensures round { IsToldTo B.told (B.tells board.old) hand.old.pass → OnOk result
@@ -150,6 +161,7 @@ fn visit_unless_ended<O: Origin, L: Ledger, B: Board<O, L>, G: Gate>(
     ensures began { OnErr result (node.old.progress.ending ≡ None) }
     ensures stopped { OnErr result (node.new.progress.ending ≡ None) }
     ensures stays { B.told ≡ true → OnErr result (B.tells board.new ≡ B.tells board.old) }
+    ensures passed { OnOk result (IsPassedBy B.opened (progress_in node.old) (progress_in node.new)) }
     ensures goes { IsToldTo B.told (B.tells board.old) hand.old.pass →
         WorksOn (B.tells board.old) hand.old (B.tells board.new) hand.new }
     ensures visited { IsToldTo B.told (B.tells board.old) hand.old.pass → OnOk result
@@ -180,6 +192,7 @@ fn visit_under_way<O: Origin, L: Ledger, B: Board<O, L>, G: Gate>(
     ensures number { node.new.number ≡ node.old.number }
     ensures stopped { OnErr result (node.new.progress.ending ≡ None) }
     ensures stays { B.told ≡ true → OnErr result (B.tells board.new ≡ B.tells board.old) }
+    ensures passed { OnOk result (IsSomeVisit B.opened (progress_in node.old) (progress_in node.new)) }
     ensures goes { IsToldTo B.told (B.tells board.old) hand.old.pass →
         WorksOn (B.tells board.old) hand.old (B.tells board.new) hand.new }
     ensures visited { IsToldTo B.told (B.tells board.old) hand.old.pass → OnOk result

@@ -8,6 +8,7 @@ ghost use Rattle.ioa_sharing.specs.Named.{shared_of_value};
 ghost use Rattle.ioa_turns.specs.NodeTurns.{progress_of};
 ghost use Rattle.ioa_solo.specs.Meets as spec;
 ghost use Rattle.ioa_solo.specs.Meets.{met_in};
+ghost use Rattle.ioa_solo.specs.SomeVisits.{IsMet, IsMetAtSome};
 ghost use Rattle.ioa_solo.specs.Told.{IsToldTo, IsUpTo};
 ghost use Rattle.ioa_solo.specs.Visits.{progress_in};
 ghost use Rattle.ioa_solo.specs.Works.{program_of};
@@ -47,6 +48,7 @@ pub(crate) fn meet<O: Origin, L: Ledger, B: Board<O, L>>(
     ensures same { B.told ≡ true → B.tells board.new ≡ B.tells board.old }
     ensures not_ahead { IsToldTo B.told (B.tells board.old) hand.old.pass →
         IsUpTo (B.tells board.old) hand.new.pass }
+    ensures some { OnOk result (IsMet B.opened (progress_in node.old) (progress_in node.new)) }
     ensures met { IsToldTo B.told (B.tells board.old) hand.old.pass → OnOk result
         (progress_in node.new ≡ met_in (states_held (B.tells board.old)) (progress_in node.old)) }
 {
@@ -72,6 +74,7 @@ fn meet_by_look<O: Origin, L: Ledger, B: Board<O, L>>(
     ensures same { B.told ≡ true → B.tells board.new ≡ B.tells board.old }
     ensures not_ahead { IsToldTo B.told (B.tells board.old) hand.old.pass →
         IsUpTo (B.tells board.old) hand.new.pass }
+    ensures some { OnOk result (IsMetAtSome B.opened (progress_in node.old) (progress_in node.new)) }
     ensures met { IsToldTo B.told (B.tells board.old) hand.old.pass → OnOk result
         (progress_in node.new ≡ met_in (states_held (B.tells board.old)) (progress_in node.old)) }
 {

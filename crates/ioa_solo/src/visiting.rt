@@ -1,8 +1,9 @@
 //! Visits of a node.
 
 ghost use Rattle.std.specs.Prelude.{◌≡◌, ◌⊎◌, IfErr, IfOk, IfSome, None, OnErr, OnOk, Some, false, is_some, true};
-ghost use Rattle.ioa_boards.specs.Places.{IsSeenAgain};
+ghost use Rattle.ioa_boards.specs.Places.{IsSeenAgain, PutsSome};
 ghost use Rattle.ioa_book.specs.Looks.{IsLookAt, snapshot_after};
+ghost use Rattle.ioa_book.specs.Proposals.{proposal_answer};
 ghost use Rattle.ioa_commits.specs.Books.{PlainBook, held_of, states_held};
 ghost use Rattle.ioa_commits.specs.Versions.{read_confs};
 ghost use Rattle.ioa_schedules.specs.Turns.{IsAtFiring, fires, idle};
@@ -16,6 +17,7 @@ ghost use Rattle.ioa_solo.specs.Fires.{Comes, IsAfterEnd, IsAfterFire};
 ghost use Rattle.ioa_solo.specs.Hands.{GainsAt};
 ghost use Rattle.ioa_solo.specs.Settled.{IsSettled, IsSettledIn, IsTurned};
 ghost use Rattle.ioa_solo.specs.Solo.{IsEndedBy, attempt, visit};
+ghost use Rattle.ioa_solo.specs.SomeVisits.{IsAfterEndOn, IsAttemptOn, IsProposed, IsSomeAttempt, IsSomeVisit};
 ghost use Rattle.ioa_solo.specs.Told.{IsToldTo, IsUpTo, WorksOn};
 
 use crate::firing::{after_fault, commit, end_by_fault};
@@ -60,6 +62,7 @@ pub(crate) fn visit<O: Origin, L: Ledger, B: Board<O, L>, G: Gate>(
         WorksOn (B.tells board.old) hand.old (B.tells board.new) hand.new }
     ensures visited { IsToldTo B.told (B.tells board.old) hand.old.pass → OnOk result
         (Comes visit (B.tells board.old) (progress_of node.old) (B.tells board.new) (progress_of node.new)) }
+    ensures passed { OnOk result (IsSomeVisit B.opened (progress_of node.old) (progress_of node.new)) }
     ensures settled { IfOk result (λ b. b ≡ true → IsSettledIn (progress_of node.new) look.new) }
 {
     if node.attempts == 0 {
@@ -98,6 +101,7 @@ fn attempt<O: Origin, L: Ledger, B: Board<O, L>, G: Gate>(
         WorksOn (B.tells board.old) hand.old (B.tells board.new) hand.new }
     ensures attempted { IsToldTo B.told (B.tells board.old) hand.old.pass → OnOk result
         (Comes attempt (B.tells board.old) (progress_of node.old) (B.tells board.new) (progress_of node.new)) }
+    ensures some { OnOk result (IsSomeAttempt B.opened (progress_of node.old) (progress_of node.new)) }
     ensures settled { IfOk result (λ b. b ≡ true → IsSettledIn (progress_of node.new) look.new) }
 {
     let number = node.program().node();
@@ -165,6 +169,8 @@ fn attempt_unless_settled<O: Origin, L: Ledger, B: Board<O, L>, G: Gate>(
         look.now ≡ Some (snapshot_after (progress_of node.old).program.node (B.tells board.old).start
         (B.tells board.old).log) → OnOk result
         (Comes attempt (B.tells board.old) (progress_of node.old) (B.tells board.new) (progress_of node.new)) }
+    ensures on_look { OnOk result (IfSome look.now
+        (λ t. IsAttemptOn B.opened t (progress_of node.old) (progress_of node.new))) }
     ensures settled { IfOk result (λ b. b ≡ true → IsSettledIn (progress_of node.new) look.now) }
 {
     if is_settled {
@@ -194,6 +200,7 @@ pub(crate) fn look_at<O: Origin, L: Ledger, B: Board<O, L>>(
     look: &mut Place<O>,
     pass: &mut Pass,
 ) -> Result<bool, ViewFault>
+    ensures some { PutsSome B.opened pass.old node look.new pass.new result }
     ensures seen { OnOk result (is_some look.new ≡ true) }
     ensures own { OnOk result (IfSome look.new (λ s. s.node ≡ node)) }
     ensures told { IsToldTo B.told (B.tells board.old) pass.old →
@@ -237,6 +244,8 @@ fn attempt_seen<O: Origin, L: Ledger, B: Board<O, L>, G: Gate>(
         look.now ≡ Some (snapshot_after (progress_of node.old).program.node (B.tells board.old).start
         (B.tells board.old).log) → OnOk result
         (Comes attempt (B.tells board.old) (progress_of node.old) (B.tells board.new) (progress_of node.new)) }
+    ensures on_look { OnOk result (IfSome look.now
+        (λ t. IsAttemptOn B.opened t (progress_of node.old) (progress_of node.new))) }
     ensures settled { IfOk result (λ b. b ≡ true → IsSettledIn (progress_of node.new) look.now) }
 {
     match look.look() {
@@ -274,6 +283,8 @@ fn attempt_on<O: Origin, L: Ledger, B: Board<O, L>, G: Gate>(
     ensures attempted { IsToldTo B.told (B.tells board.old) hand.old.pass →
         IsLookAt (B.tells board.old) (progress_of node.old).program.node snapshot.now → OnOk result
         (Comes attempt (B.tells board.old) (progress_of node.old) (B.tells board.new) (progress_of node.new)) }
+    ensures on_look { OnOk result
+        (IsAttemptOn B.opened snapshot.now (progress_of node.old) (progress_of node.new)) }
     ensures settled { IfOk result (λ b. b ≡ true → IsSettled (progress_of node.new) snapshot.now) }
 {
     match turn_on(alloc, snapshot, node) {
@@ -315,6 +326,8 @@ fn after_turn<O: Origin, L: Ledger, B: Board<O, L>, G: Gate>(
         IsLookAt (B.tells board.old) (progress_of node.old).program.node snapshot.now →
         OnOk result (IsAfterEnd (B.tells board.old) (progress_of node.old) (end_of (arguments_in node.old) turn.entry)
         (B.tells board.new) (progress_of node.new)) }
+    ensures ended { OnOk result (IsAfterEndOn B.opened snapshot.now (progress_of node.old)
+        (end_of (arguments_in node.old) turn.entry) (progress_of node.new)) }
     ensures settled { IfOk result (λ b. b ≡ true → IsSettled (progress_of node.new) snapshot.now) }
 {
     match turn {
@@ -395,6 +408,9 @@ fn go_past<O: Origin, L: Ledger, B: Board<O, L>, G: Gate>(
         OnOk result (IsAfterFire (B.tells board.old) (progress_of node.old)
         (action_fired (progress_of node.old).program (firing_of firing.now).action (arguments_in node.old))
         (B.tells board.new) (progress_of node.new)) }
+    ensures proposed { OnOk result (IsProposed B.opened (proposal_answer (action_fired (progress_of node.old).program
+        (firing_of firing.now).action (arguments_in node.old)) snapshot.now) (progress_of node.old)
+        (progress_of node.new)) }
     ensures settled { IfOk result (λ b. b ≡ true → IsSettled (progress_of node.new) snapshot.now) }
 {
     let fired = node.action_fired(alloc, firing)?;

@@ -8,6 +8,7 @@ ghost use Rattle.ioa_sharing.specs.Named.{shared_of_value};
 ghost use Rattle.ioa_turns.specs.NodeTurns.{progress_at};
 ghost use Rattle.ioa_solo.specs.Hands.{Earns};
 ghost use Rattle.ioa_solo.specs.Meets.{met_in};
+ghost use Rattle.ioa_solo.specs.SomeVisits.{AreBegun, AreEndingsOf, IsMet};
 ghost use Rattle.ioa_solo.specs.Told.{IsToldTo, IsUpTo, WorksOn};
 ghost use Rattle.ioa_solo.specs.Visits.{attempts_left, number_in, progress_in, visited_of};
 ghost use Rattle.ioa_solo.specs.Works as spec;
@@ -47,6 +48,7 @@ pub fn work<O: Origin, L: Ledger, B: Board<O, L>, G: Gate>(
     requires { length nodes.now ≤ GREATEST_NODES }
     ensures ended { length result ≡ length nodes.now }
     ensures earned { Earns attempts nodes.now hand.old hand.new }
+    ensures each { AreEndingsOf B.opened attempts (shared_of_value system.now).programs nodes.now result }
     ensures goes { IsToldTo B.told (B.tells board.old) hand.old.pass →
         WorksOn (B.tells board.old) hand.old (B.tells board.new) hand.new }
     ensures solo { IsAlone B.told (B.tells board.old) hand.old.pass (shared_of_value system.now) nodes.now →
@@ -67,6 +69,7 @@ fn nodes_of<'a, O: Origin, L: Ledger, B: Board<O, L>>(
     hand: &mut Hand<L>,
 ) -> Vec<Visited<'a, O>>
     ensures few { (those : ℤ → Bool) → attempts_left result.items those ≤ attempts * length (filter those nodes.now) }
+    ensures begun { AreBegun B.opened attempts (shared_of_value system.now).programs result.items }
     ensures share { hand.new.share ≡ hand.old.share }
     ensures receipts { hand.new.receipts ≡ hand.old.receipts }
     ensures same { B.told ≡ true → B.tells board.new ≡ B.tells board.old }
@@ -93,6 +96,7 @@ fn start_nodes<'a, O: Origin, L: Ledger, B: Board<O, L>>(
 ) -> Result<Vec<Visited<'a, O>>, AllocError>
     ensures few { (those : ℤ → Bool) →
         IfOk result (λ v. attempts_left v.items those ≤ attempts * length (filter those nodes.now)) }
+    ensures begun { IfOk result (λ v. AreBegun B.opened attempts (shared_of_value system.now).programs v.items) }
     ensures share { hand.new.share ≡ hand.old.share }
     ensures receipts { hand.new.receipts ≡ hand.old.receipts }
     ensures same { B.told ≡ true → B.tells board.new ≡ B.tells board.old }
@@ -120,6 +124,8 @@ fn start_node<'a, O: Origin, L: Ledger, B: Board<O, L>>(
 ) -> Result<(), AllocError>
     ensures few { (those : ℤ → Bool) → OnOk result (attempts_left visited.new.items those
         ≤ attempts_left visited.old.items those + attempts * length (filter those (node ∷ []))) }
+    ensures begun { AreBegun B.opened attempts (shared_of_value system.now).programs visited.old.items → OnOk result
+        (AreBegun B.opened attempts (shared_of_value system.now).programs visited.new.items) }
     ensures share { hand.new.share ≡ hand.old.share }
     ensures receipts { hand.new.receipts ≡ hand.old.receipts }
     ensures same { B.told ≡ true → B.tells board.new ≡ B.tells board.old }
@@ -152,6 +158,7 @@ fn first_visited<'a, O: Origin, L: Ledger, B: Board<O, L>>(
     requires own { spec.program_of program.now.node (shared_of_value system.now).programs ≡ Some program.now }
     ensures all { IfOk result (λ n. n.progress.attempts ≡ attempts) }
     ensures program { IfOk result (λ n. number_in n ≡ program.now.node) }
+    ensures begun { IfOk result (λ n. IsMet B.opened (progress_at attempts program.now) (progress_in n)) }
     ensures share { hand.new.share ≡ hand.old.share }
     ensures receipts { hand.new.receipts ≡ hand.old.receipts }
     ensures number { IfOk result (λ n. n.number ≡ program.now.node) }

@@ -9,6 +9,7 @@ use Rattle.ioa_solo.specs.Told.{IsToldTo}
 use Rattle.ioa_solo.proofs.Gains.{gained_at_one}
 use Rattle.ioa_solo.proofs.GoesOn.{goes_by_commit}
 use Rattle.ioa_solo.proofs.ToldFires.{taken_comes}
+use Rattle.ioa_solo.proofs.SomeVisits.{offered_commit, taken_commit, takes}
 use Rattle.ioa_solo.proofs.firing.commit.Goals as goal
 
 pub returns-in-Some-clause-gained : goal.returns-in-Some-clause-gained
@@ -50,3 +51,12 @@ returns-in-Some-offer-clause-fired g c = λ t p.
     let told : IsToldTo g.B.Board.told (g.B.Board.tells c.attempt_quickly.new.self) c.attempt_quickly.new.pass = rw (same, kept.1) t in
     let proposed : IsProposedIn (g.B.Board.tells c.attempt_quickly.new.self) c.args.node.now.program.now.node c.in-Some-offer.proposal = rw (same, ← offered) p in
     rw (← same, offered) (c.commit_tested.ensures.fired told proposed)
+
+pub returns-in-Some-clause-committed : goal.returns-in-Some-clause-committed
+returns-in-Some-clause-committed g c = taken_commit _ _ _ _ (takes _ _ _ _ _ _ c.in-Some.ensures.taken) c.pass.ensures.past
+
+pub returns-in-Some-offer-clause-committed : goal.returns-in-Some-offer-clause-committed
+returns-in-Some-offer-clause-committed g c =
+    let kept = c.attempt_quickly.ensures.kept c.in-None.is in
+    let offered : c.args.proposal ≡ c.in-Some-offer.proposal = let both : Some c.args.proposal ≡ Some c.in-Some-offer.proposal = sym kept.0 ∙ c.in-Some-offer.is in cc in
+    offered_commit c.commit_tested.result g.B.Board.opened c.args.proposal c.in-Some-offer.proposal (progress_of c.args.node.now) (progress_of c.commit_tested.new.node) offered c.commit_tested.ensures.committed

@@ -10,6 +10,7 @@ use Rattle.ioa_solo.specs.Told.{IsUpTo}
 use Rattle.ioa_solo.proofs.Gains.{gained_at_none, gained_at_one}
 use Rattle.ioa_solo.proofs.GoesOn.{goes_by_commit, goes_nowhere}
 use Rattle.ioa_solo.proofs.ToldFires.{missed_comes, taken_comes}
+use Rattle.ioa_solo.proofs.SomeVisits.{missed_commit, taken_commit}
 use Rattle.ioa_solo.proofs.firing.commit_tested.Goals as goal
 
 pub returns-in_err-block-clause-goes : goal.returns-in_err-block-clause-goes
@@ -50,3 +51,9 @@ pub returns-in-Err-clause-fired : goal.returns-in-Err-clause-fired
 returns-in-Err-clause-fired g c = λ t p.
     let none = missed_comes _ (progress_of c.args.node.now) c.args.proposal p _ _ _ _ t.not_ahead (c.in-Err.ensures.missed t.told) in
     none.2 ∙ (λ j. (course_of (sym none.0 j), sym c.after_miss.ensures.missed j))
+
+pub returns-in-Ok-clause-committed : goal.returns-in-Ok-clause-committed
+returns-in-Ok-clause-committed g c = taken_commit _ _ _ _ c.in-Ok.ensures.takes c.pass.ensures.past
+
+pub returns-in-Err-clause-committed : goal.returns-in-Err-clause-committed
+returns-in-Err-clause-committed g c = missed_commit _ _ _ _ _ c.in-Err.ensures.misses c.after_miss.ensures.missed

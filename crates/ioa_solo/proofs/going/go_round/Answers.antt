@@ -1,16 +1,18 @@
-use Rattle.std.proofs.Common.{◌<◌, ◌∙◌, length, refl, arith, rules}
+use Rattle.std.proofs.Common.{◌<◌, ◌∙◌, length, refl, rules}
 use Rattle.ioa_solo.specs.Told.{IsToldTo}
 use Rattle.ioa_solo.specs.Visits.{number_in, progress_in}
 use Rattle.ioa_solo.proofs.Gains.{gained_at, gained_none}
 use Rattle.ioa_solo.proofs.GoesOn.{goes_further}
 use Rattle.ioa_solo.proofs.Rounds.{if_failed, same_set, under_way_at}
 use Rattle.ioa_solo.proofs.ToldRounds.{round_begins, round_cut, round_ends, round_goes_on}
+use Rattle.ioa_solo.proofs.SomeVisits.{passing_begins, passing_ends, passing_goes_on, passing_stops}
 use Rattle.ioa_solo.proofs.going.go_round.Goals as goal
 
 pub loop-position-init : goal.loop-position-init
 loop-position-init g c = record {
   gained = gained_none _ _ _ _ _ refl refl;
   numbers = refl;
+  passing = passing_begins _ _;
   told = λ t. round_begins _ _ _ _ t.not_ahead;
 }
 
@@ -40,6 +42,9 @@ loop-position-preserved g c =
     record {
       gained = gained_at number_in (λ n. n.progress.attempts) _ c.loop-position.nodes c.loop-position.position c.index-nodes-position.result c.visit_unless_ended.new.node _ _ _ _ _ _ within c.visit_unless_ended.ensures.same c.loop-position.invariant.gained c.visit_unless_ended.ensures.gained;
       numbers = same_set (λ n. n.number) c.loop-position.nodes c.loop-position.position c.index-nodes-position.result c.visit_unless_ended.new.node within c.visit_unless_ended.ensures.number ∙ c.loop-position.invariant.numbers;
+      passing =
+          passing_goes_on progress_in c.loop-position.nodes c.loop-position.position c.index-nodes-position.result c.visit_unless_ended.new.node g.B.Board.opened _ within c.loop-position.invariant.passing
+          c.in_ok-visit_unless_ended.ensures.passed;
       told = λ t.
           let far = c.loop-position.invariant.told t in
           let now : IsToldTo g.B.Board.told (g.B.Board.tells c.loop-position.board) c.loop-position.hand.pass = record { told = t.told; not_ahead = far.goes.not_ahead } in
@@ -60,3 +65,13 @@ returns-in_err-visit_unless_ended-clause-cut g c = λ t.
     (round_cut progress_in c.loop-position.nodes c.loop-position.position c.index-nodes-position.result c.visit_unless_ended.new.node
     (g.B.Board.tells c.args.board.now) (g.B.Board.tells c.loop-position.board) (g.B.Board.tells c.visit_unless_ended.new.board) _ _ _ _ within (c.loop-position.invariant.told t)
     (c.in_err-visit_unless_ended.ensures.stays t.told) c.in_err-visit_unless_ended.ensures.began c.in_err-visit_unless_ended.ensures.stopped)
+
+pub returns-clause-passed : goal.returns-clause-passed
+returns-clause-passed g c = passing_ends progress_in c.loop-position.nodes c.loop-position.position g.B.Board.opened _ (search rules) c.loop-position.invariant.passing
+
+pub returns-in_err-visit_unless_ended-clause-left : goal.returns-in_err-visit_unless_ended-clause-left
+returns-in_err-visit_unless_ended-clause-left g c =
+    let within : c.loop-position.position < length c.loop-position.nodes = search rules in
+    if_failed c.from_residual.result
+    (passing_stops progress_in c.loop-position.nodes c.loop-position.position c.index-nodes-position.result c.visit_unless_ended.new.node g.B.Board.opened _ within c.loop-position.invariant.passing
+    c.in_err-visit_unless_ended.ensures.stopped)

@@ -1,5 +1,5 @@
 use Rattle.std.proofs.Common.{◌≡◌, ◌⊎◌, sym, subst, refl, Some, false, rules}
-use Rattle.std.specs.Prelude.{IfSome, OnErr, OnOk, is_some}
+use Rattle.std.specs.Prelude.{Err, IfSome, OnErr, OnOk, is_some}
 use Rattle.ioa_actions.specs.declared.component.Component.TheVariants.{Node}
 use Rattle.ioa_book.specs.Looks.{snapshot_after}
 use Rattle.ioa_commits.specs.Books.{PlainBook, held_of}
@@ -12,6 +12,9 @@ use Rattle.ioa_solo.proofs.GoesOn.{goes_further, goes_nowhere}
 use Rattle.ioa_solo.proofs.Rounds.{if_failed}
 use Rattle.ioa_solo.proofs.SettledNodes.{both_settled, never_settled}
 use Rattle.ioa_solo.proofs.ToldTurns.{unseen_came}
+use Rattle.ioa_boards.specs.Places.{SeesSome}
+use Rattle.ioa_shared.specs.SomeBook.{LooksAtSome}
+use Rattle.ioa_solo.proofs.SomeVisits.{seen_attempt, unseen_attempt}
 use Rattle.ioa_solo.proofs.visiting.attempt.Goals as goal
 
 pub attempt_unless_settled-requires-clause-own : goal.attempt_unless_settled-requires-clause-own
@@ -71,3 +74,19 @@ attempt_unless_settled-requires-clause-settled g c = λ e.
 
 pub returns-in-Err-clause-settled : goal.returns-in-Err-clause-settled
 returns-in-Err-clause-settled g c = never_settled _ c.end_attempt.result c.end_attempt.ensures.unsettled
+
+pub returns-in-Ok-clause-some : goal.returns-in-Ok-clause-some
+returns-in-Ok-clause-some g c =
+    let n = (progress_of c.args.node.now).program.node in
+    let as_put = c.in-Ok.ensures.some in
+    let put : SeesSome g.B.Board.opened c.args.hand.now.pass n c.look_at.new.look c.look_at.new.pass = search rules in
+    seen_attempt g.B.Board.opened c.args.hand.now.pass n (progress_of c.args.node.now) (progress_of c.attempt_unless_settled.new.node) refl
+    c.attempt_unless_settled.result c.look_at.new.look c.look_at.new.pass put c.attempt_unless_settled.ensures.on_look
+
+pub returns-in-Err-clause-some : goal.returns-in-Err-clause-some
+returns-in-Err-clause-some g c =
+    let n = (progress_of c.args.node.now).program.node in
+    let as_put = c.in-Err.ensures.some.0 in
+    let put : LooksAtSome g.B.Board.opened c.args.hand.now.pass n (Err c.in-Err.fault) = search rules in
+    unseen_attempt g.B.Board.opened c.args.hand.now.pass n (progress_of c.args.node.now) (progress_of c.end_attempt.new.node) refl
+    c.end_attempt.result c.in-Err.fault c.fault_of_view.result c.fault_of_view.ensures put c.end_attempt.ensures.ended

@@ -7,6 +7,7 @@ use Rattle.ioa_solo.proofs.GoesOn.{goes_nowhere}
 use Rattle.ioa_solo.proofs.Rounds.{if_failed}
 use Rattle.ioa_solo.proofs.SettledNodes.{never_settled}
 use Rattle.ioa_solo.proofs.ToldTurns.{turn_came, turn_failed}
+use Rattle.ioa_solo.proofs.SomeVisits.{turned_on, unturned_on}
 use Rattle.ioa_solo.proofs.visiting.attempt_on.Goals as goal
 
 pub returns-in-Ok-clause-gained : goal.returns-in-Ok-clause-gained
@@ -37,3 +38,13 @@ returns-in-Err-clause-stays g c = λ told. if_failed c.end_attempt.result refl
 
 pub returns-in-Err-clause-settled : goal.returns-in-Err-clause-settled
 returns-in-Err-clause-settled g c = never_settled _ c.end_attempt.result c.end_attempt.ensures.unsettled
+
+pub returns-in-Ok-clause-on_look : goal.returns-in-Ok-clause-on_look
+returns-in-Ok-clause-on_look g c =
+    turned_on g.B.Board.opened c.args.snapshot.now (progress_of c.args.node.now) (progress_of c.turn_on.new.node) (progress_of c.after_turn.new.node)
+    c.after_turn.result (end_of (arguments_in c.turn_on.new.node) c.in-Ok.turn) c.in-Ok.ensures.seen c.after_turn.ensures.ended
+
+pub returns-in-Err-clause-on_look : goal.returns-in-Err-clause-on_look
+returns-in-Err-clause-on_look g c =
+    unturned_on g.B.Board.opened c.args.snapshot.now (progress_of c.args.node.now) (progress_of c.turn_on.new.node) (progress_of c.end_attempt.new.node)
+    c.end_attempt.result c.in-Err.fault c.in-Err.ensures.seen c.in-Err.ensures.unchanged c.end_attempt.ensures.ended

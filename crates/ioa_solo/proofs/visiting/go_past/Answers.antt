@@ -10,6 +10,7 @@ use Rattle.ioa_solo.proofs.FreshFires.{proposed_node}
 use Rattle.ioa_solo.proofs.Gains.{gained_at_within}
 use Rattle.ioa_solo.proofs.GoesOn.{goes_nowhere}
 use Rattle.ioa_solo.proofs.ToldFires.{failed_comes, on_both, proposed_for, proposed_in}
+use Rattle.ioa_solo.proofs.SomeVisits.{failed_on, proposed_on}
 use Rattle.ioa_solo.proofs.visiting.go_past.Goals as goal
 
 pub returns-in_err-fired-clause-goes : goal.returns-in_err-fired-clause-goes
@@ -61,3 +62,15 @@ returns-in-Err-clause-settled g c =
     fire_settled c.after_fault.result (kept_in c.args.node.now) (kept_in c.action_fired.new.self) c.args.snapshot.now p (progress_of c.action_fired.new.self) (progress_of c.after_fault.new.node)
     fired.kind fired.action (arguments_in c.args.node.now) c.in_ok-fired.fired.action c.in-Err.fault
     c.requires.turned c.action_fired.ensures.unchanged c.action_fired.ensures.kept c.in_ok-fired.ensures.action c.in-Err.ensures c.after_fault.ensures.failed c.after_fault.ensures.back
+
+pub returns-in-Ok-clause-proposed : goal.returns-in-Ok-clause-proposed
+returns-in-Ok-clause-proposed g c =
+    proposed_on g.B.Board.opened c.args.snapshot.now c.in_ok-fired.fired.action _ c.in_ok-fired.ensures.action
+    (progress_of c.args.node.now) (progress_of c.action_fired.new.self) (progress_of c.commit.new.node) c.action_fired.ensures.unchanged
+    c.commit.result c.in-Ok.proposal c.in-Ok.ensures c.commit.ensures.committed
+
+pub returns-in-Err-clause-proposed : goal.returns-in-Err-clause-proposed
+returns-in-Err-clause-proposed g c =
+    failed_on g.B.Board.opened c.args.snapshot.now c.in_ok-fired.fired.action _ c.in_ok-fired.ensures.action
+    (progress_of c.args.node.now) (progress_of c.action_fired.new.self) (progress_of c.after_fault.new.node) c.action_fired.ensures.unchanged
+    c.after_fault.result c.in-Err.fault c.in-Err.ensures c.after_fault.ensures.failed c.after_fault.ensures.real

@@ -23,6 +23,7 @@ loop-node-preserved g c =
           subst (λ (l : List ℤ). attempts_left c.start_node.new.visited.items those ≤ c.args.attempts * length (filter those l)) (sym (take_more nodes i (pos 0) within))
           (left_more those c.args.attempts (attempts_left c.loop-node.visited.items those) (attempts_left c.start_node.new.visited.items those) (take i nodes) item
           (c.loop-node.invariant.few those) (rw plain at (c.in_ok-start_node.ensures.few those)));
+      begun = c.in_ok-start_node.ensures.begun c.loop-node.invariant.begun;
       share = c.start_node.ensures.share ∙ c.loop-node.invariant.share;
       receipts = c.start_node.ensures.receipts ∙ c.loop-node.invariant.receipts;
       same = λ e. c.start_node.ensures.same e ∙ c.loop-node.invariant.same e;
