@@ -6,3 +6,4 @@ pub mod Replays
 pub mod Reported
 pub mod Shown
 pub mod Tellings
+pub mod Verdicts

@@ -12,6 +12,7 @@ use Rattle.ioa_schedule_check.specs.declared.fault.ScheduleFault.{ScheduleFault}
 use Rattle.ioa_schedule_check.specs.declared.fault.ScheduleFault.TheVariants as schedule
 use Rattle.ioa_schedule_check.specs.Schedules.{schedule_answer}
 use Rattle.ioa_schedule_check.specs.Taken.{IsRefusedIf, IsWholeIf, answer_by, taken_of}
+use Rattle.ioa_monitor.specs.declared.findings.Findings.{Findings}
 use Rattle.ioa_paper.specs.Papers.{Ended}
 use Rattle.ioa_paper.specs.declared.fault.ReportFault.{ReportFault}
 use Rattle.ioa_paper.specs.declared.fault.ReportFault.TheVariants as report
@@ -33,8 +34,10 @@ use Rattle.ioa_pipeline.specs.declared.tracing.Format.{Format}
 use Rattle.ioa_pipeline.specs.declared.tracing.Format.TheVariants as format
 use Rattle.ioa_pipeline.specs.Described.{IsDescribed}
 use Rattle.ioa_pipeline.specs.ScheduleChecks.{IsExactForCheck, IsFaultBefore}
+use Rattle.ioa_pipeline.specs.Judging.{found_if}
 use Rattle.ioa_pipeline.specs.Replaying.{IsExactForReplay, IsFaultOfReplay, IsReplayPart, IsReplayShown, ReplaysIn}
-use Rattle.ioa_pipeline.specs.Replaying.{IsReplayIn, ShowsGiven, ShowsReplay, ShowsSteps, replay_shown, replay_told}
+use Rattle.ioa_pipeline.specs.Replaying.{IsReplayIn, ShowsGiven, ShowsJudged, ShowsRefused, ShowsReplay, ShowsSteps}
+use Rattle.ioa_pipeline.specs.Replaying.{replay_shown, replay_told}
 use Rattle.ioa_pipeline.specs.Tracing.{fresh_teller}
 use Rattle.ioa_pipeline.proofs.Refusals.{before_refused}
 use Rattle.ioa_pipeline.proofs.Tellings.{events_kept}
@@ -105,20 +108,47 @@ telling_shown s entries refused old new failed output told (Ok x) (Err f) h g = 
 telling_shown s entries refused old new failed output told (Err tell.Memory) sent h g = tt
 telling_shown s entries refused old new failed output told (Err tell.Differs) sent h g = tt
 
--- ---- a schedule with its refusal
+-- ---- a schedule with its verdicts, or with its refusal
+
+-- steps that were shown whole, of which it is known what their verdicts come to
+pub judged_done : (s : SystemParts) (entries : List PlainEntry) (refused : Option PlainEntry) (f : Format)
+    (judged : Bool) (old new : Option (List ℕ)) (failed : Bool) (found : Findings) (x : Unit {0})
+    → found ≡ found_if judged s entries → ShowsSteps s entries refused f old new failed (Ok x)
+    → ShowsJudged s entries refused f judged old new failed (Ok found)
+judged_done s entries refused f judged old new failed found x is h = (is, h)
+
+-- and those of which showing them had a fault
+pub judged_fault : (s : SystemParts) (entries : List PlainEntry) (refused : Option PlainEntry) (f : Format)
+    (judged : Bool) (old new : Option (List ℕ)) (failed : Bool) (e : ReplayFault)
+    → ShowsSteps s entries refused f old new failed (Err e)
+    → ShowsJudged s entries refused f judged old new failed (Err e)
+judged_fault s entries refused f judged old new failed (Check (check.Front e)) h = absurd h
+judged_fault s entries refused f judged old new failed (Check (check.Check e)) h = absurd h
+judged_fault s entries refused f judged old new failed (Check (check.Schedule e)) h = absurd h
+judged_fault s entries refused f judged old new failed (Check check.Memory) h = inr h
+judged_fault s entries refused f judged old new failed (Check check.Write) h = h
+judged_fault s entries refused f judged old new failed Differs h = tt
+
+-- without memory for the verdicts nothing is shown
+pub unjudged_replay : (s : SystemParts) (entries : List PlainEntry) (refused : Option PlainEntry) (f : Format)
+    (judged : Bool) (old : Option (List ℕ)) (failed : Bool)
+    → ShowsJudged s entries refused f judged old old failed (Err (Check check.Memory))
+unjudged_replay s entries refused f judged old failed = inl (Keeps-refl old)
+
+pub ruleset judged_rules = (judged_done, judged_fault, unjudged_replay)
 
 -- steps that were shown whole, before a refusal
 pub shown_refused : (s : SystemParts) (entries : List PlainEntry) (refused : Option PlainEntry) (e : ScheduleFault)
     (f : Format) (old new : Option (List ℕ)) (failed : Bool) (x : Unit {0}) → (e ≡ schedule.Memory → ⊥)
     → ShowsSteps s entries refused f old new failed (Ok x)
-    → ShowsGiven s entries refused (Some e) f old new failed (Err (Check (check.Schedule e)))
+    → ShowsRefused s entries refused e f old new failed (Err (Check (check.Schedule e)))
 shown_refused s entries refused e f old new failed x other h = (refl, other, h)
 
 -- and those of which showing them had a fault
 pub fault_refused : (s : SystemParts) (entries : List PlainEntry) (refused : Option PlainEntry) (e : ScheduleFault)
     (f : Format) (old new : Option (List ℕ)) (failed : Bool) (g : ReplayFault)
     → ShowsSteps s entries refused f old new failed (Err g)
-    → ShowsGiven s entries refused (Some e) f old new failed (Err g)
+    → ShowsRefused s entries refused e f old new failed (Err g)
 fault_refused s entries refused e f old new failed (Check (check.Front g)) h = absurd h
 fault_refused s entries refused e f old new failed (Check (check.Check g)) h = absurd h
 fault_refused s entries refused e f old new failed (Check (check.Schedule g)) h = absurd h
@@ -130,9 +160,9 @@ pub ruleset refused_rules = (shown_refused, fault_refused)
 
 -- without memory for the lines nothing is shown
 pub kept_replay : (s : SystemParts) (entries : List PlainEntry) (refused : Option PlainEntry) (e : ScheduleFault)
-    (f : Format) (old : Option (List ℕ)) (failed : Bool)
-    → ShowsGiven s entries refused (Some e) f old old failed (Err (Check check.Memory))
-kept_replay s entries refused e f old failed = inl (Keeps-refl old)
+    (f : Format) (judged : Bool) (old : Option (List ℕ)) (failed : Bool)
+    → ShowsGiven s entries refused (Some e) f judged old old failed (Err (Check check.Memory))
+kept_replay s entries refused e f judged old failed = inl (Keeps-refl old)
 
 -- ---- the lines in a system
 
@@ -164,93 +194,99 @@ part_replay s lines taken f old new failed e is h = subst (λ es. IsReplayPart f
 
 -- a schedule without a refusal
 none_replays : (s : SystemParts) (lines : List ℕ) (taken : List PlainEntry) (refused : Option PlainEntry) (f : Format)
-    (old new : Option (List ℕ)) (failed : Bool) (r : Result (Unit {0}) ReplayFault) → Given s lines None taken refused
-    → ShowsSteps s taken refused f old new failed r → ReplaysIn s lines f old new failed r
-none_replays s lines taken refused f old new failed (Ok x) g h =
-    whole_replay s lines None taken refused f old new failed g h
-none_replays s lines taken refused f old new failed (Err (Check (check.Front e))) g h = absurd h
-none_replays s lines taken refused f old new failed (Err (Check (check.Check e))) g h = absurd h
-none_replays s lines taken refused f old new failed (Err (Check (check.Schedule e))) g h = absurd h
-none_replays s lines taken refused f old new failed (Err (Check check.Memory)) g h =
-    inr (part_replay s lines taken f old new failed report.Memory g.steps h)
-none_replays s lines taken refused f old new failed (Err (Check check.Write)) g h =
-    part_replay s lines taken f old new failed report.Write g.steps h
-none_replays s lines taken refused f old new failed (Err Differs) g h = tt
-
--- and one that is refused
-some_replays : (s : SystemParts) (lines : List ℕ) (e : ScheduleFault) (taken : List PlainEntry)
-    (refused : Option PlainEntry) (f : Format) (old new : Option (List ℕ)) (failed : Bool)
-    (r : Result (Unit {0}) ReplayFault) → Given s lines (Some e) taken refused
-    → ShowsGiven s taken refused (Some e) f old new failed r → ReplaysIn s lines f old new failed r
-some_replays s lines e taken refused f old new failed (Ok x) g h = absurd h
-some_replays s lines e taken refused f old new failed (Err (Check (check.Front x))) g h = absurd h
-some_replays s lines e taken refused f old new failed (Err (Check (check.Check x))) g h = absurd h
-some_replays s lines e taken refused f old new failed (Err (Check (check.Schedule x))) g h =
-    rw h.0 (h.1, whole_replay s lines (Some e) taken refused f old new failed g h.2)
-some_replays s lines e taken refused f old new failed (Err (Check check.Memory)) g h = elim h [
+    (judged : Bool) (old new : Option (List ℕ)) (failed : Bool) (r : Result Findings ReplayFault)
+    → Given s lines None taken refused → ShowsJudged s taken refused f judged old new failed r
+    → ReplaysIn s lines f judged old new failed r
+none_replays s lines taken refused f judged old new failed (Ok found) g h = (
+  subst (λ (es : List PlainEntry). found ≡ found_if judged s es) g.steps h.0,
+  whole_replay s lines None taken refused f old new failed g h.1,
+)
+none_replays s lines taken refused f judged old new failed (Err (Check (check.Front e))) g h = absurd h
+none_replays s lines taken refused f judged old new failed (Err (Check (check.Check e))) g h = absurd h
+none_replays s lines taken refused f judged old new failed (Err (Check (check.Schedule e))) g h = absurd h
+none_replays s lines taken refused f judged old new failed (Err (Check check.Memory)) g h = elim h [
   | inl kept ↦ inl kept
   | inr part ↦ inr (part_replay s lines taken f old new failed report.Memory g.steps part)
 ]
-some_replays s lines e taken refused f old new failed (Err (Check check.Write)) g h =
+none_replays s lines taken refused f judged old new failed (Err (Check check.Write)) g h =
     part_replay s lines taken f old new failed report.Write g.steps h
-some_replays s lines e taken refused f old new failed (Err Differs) g h = tt
+none_replays s lines taken refused f judged old new failed (Err Differs) g h = tt
+
+-- and one that is refused
+some_replays : (s : SystemParts) (lines : List ℕ) (e : ScheduleFault) (taken : List PlainEntry)
+    (refused : Option PlainEntry) (f : Format) (judged : Bool) (old new : Option (List ℕ)) (failed : Bool)
+    (r : Result Findings ReplayFault) → Given s lines (Some e) taken refused
+    → ShowsRefused s taken refused e f old new failed r → ReplaysIn s lines f judged old new failed r
+some_replays s lines e taken refused f judged old new failed (Ok found) g h = absurd h
+some_replays s lines e taken refused f judged old new failed (Err (Check (check.Front x))) g h = absurd h
+some_replays s lines e taken refused f judged old new failed (Err (Check (check.Check x))) g h = absurd h
+some_replays s lines e taken refused f judged old new failed (Err (Check (check.Schedule x))) g h =
+    rw h.0 (h.1, whole_replay s lines (Some e) taken refused f old new failed g h.2)
+some_replays s lines e taken refused f judged old new failed (Err (Check check.Memory)) g h = elim h [
+  | inl kept ↦ inl kept
+  | inr part ↦ inr (part_replay s lines taken f old new failed report.Memory g.steps part)
+]
+some_replays s lines e taken refused f judged old new failed (Err (Check check.Write)) g h =
+    part_replay s lines taken f old new failed report.Write g.steps h
+some_replays s lines e taken refused f judged old new failed (Err Differs) g h = tt
 
 pub given_replays : (s : SystemParts) (lines : List ℕ) (refusal : Option ScheduleFault) (taken : List PlainEntry)
-    (refused : Option PlainEntry) (f : Format) (old new : Option (List ℕ)) (failed : Bool)
-    (r : Result (Unit {0}) ReplayFault) → taken ≡ taken_of s lines → answer_by refusal ≡ schedule_answer s lines
+    (refused : Option PlainEntry) (f : Format) (judged : Bool) (old new : Option (List ℕ)) (failed : Bool)
+    (r : Result Findings ReplayFault) → taken ≡ taken_of s lines → answer_by refusal ≡ schedule_answer s lines
     → IsWholeIf refusal s lines taken → IsRefusedIf refusal s lines taken refused
-    → ShowsGiven s taken refused refusal f old new failed r → ReplaysIn s lines f old new failed r
-given_replays s lines None taken refused f old new failed r steps answer whole is_refused h =
-    none_replays s lines taken refused f old new failed r
+    → ShowsGiven s taken refused refusal f judged old new failed r → ReplaysIn s lines f judged old new failed r
+given_replays s lines None taken refused f judged old new failed r steps answer whole is_refused h =
+    none_replays s lines taken refused f judged old new failed r
     (record { steps = steps; answer = answer; whole = whole; is_refused = is_refused }) h
-given_replays s lines (Some e) taken refused f old new failed r steps answer whole is_refused h =
-    some_replays s lines e taken refused f old new failed r
+given_replays s lines (Some e) taken refused f judged old new failed r steps answer whole is_refused h =
+    some_replays s lines e taken refused f judged old new failed r
     (record { steps = steps; answer = answer; whole = whole; is_refused = is_refused }) h
 
 -- if there is no memory for them, nothing went out
-pub unmade_replays : (s : SystemParts) (lines : List ℕ) (f : Format) (old : Option (List ℕ)) (failed : Bool)
-    → ReplaysIn s lines f old old failed (Err (Check check.Memory))
-unmade_replays s lines f old failed = inl (Keeps-refl old)
+pub unmade_replays : (s : SystemParts) (lines : List ℕ) (f : Format) (judged : Bool) (old : Option (List ℕ))
+    (failed : Bool) → ReplaysIn s lines f judged old old failed (Err (Check check.Memory))
+unmade_replays s lines f judged old failed = inl (Keeps-refl old)
 
 pub ruleset given_rules = (given_replays, unmade_replays)
 
 -- ---- the lines beside a text
 
-pub replayed : (text lines : List ℕ) (s : SystemParts) (f : Format) (old new : Option (List ℕ)) (failed : Bool)
-    (r : Result (Unit {0}) ReplayFault) → IsDescribed text s → ReplaysIn s lines f old new failed r
-    → ShowsReplay text lines f old new failed r
-replayed text lines s f old new failed (Ok x) d h = record { parts = s; described = d; replays = h }
-replayed text lines s f old new failed (Err (Check (check.Front e))) d h = absurd h
-replayed text lines s f old new failed (Err (Check (check.Check e))) d h = absurd h
-replayed text lines s f old new failed (Err (Check (check.Schedule e))) d h =
+pub replayed : (text lines : List ℕ) (s : SystemParts) (f : Format) (judged : Bool) (old new : Option (List ℕ))
+    (failed : Bool) (r : Result Findings ReplayFault) → IsDescribed text s → ReplaysIn s lines f judged old new failed r
+    → ShowsReplay text lines f judged old new failed r
+replayed text lines s f judged old new failed (Ok found) d h = record { parts = s; described = d; replays = h }
+replayed text lines s f judged old new failed (Err (Check (check.Front e))) d h = absurd h
+replayed text lines s f judged old new failed (Err (Check (check.Check e))) d h = absurd h
+replayed text lines s f judged old new failed (Err (Check (check.Schedule e))) d h =
     record { parts = s; described = d; replays = h }
-replayed text lines s f old new failed (Err (Check check.Memory)) d h =
+replayed text lines s f judged old new failed (Err (Check check.Memory)) d h =
     inr (record { parts = s; described = d; replays = h })
-replayed text lines s f old new failed (Err (Check check.Write)) d h =
+replayed text lines s f judged old new failed (Err (Check check.Write)) d h =
     record { parts = s; described = d; replays = h }
-replayed text lines s f old new failed (Err Differs) d h = tt
+replayed text lines s f judged old new failed (Err Differs) d h = tt
 
 -- its faults are those of the lines
-pub replay_refused : (text lines : List ℕ) (s : SystemParts) (f : Format) (old new : Option (List ℕ)) (failed : Bool)
-    (r : Result (Unit {0}) ReplayFault) → IsDescribed text s → ReplaysIn s lines f old new failed r
+pub replay_refused : (text lines : List ℕ) (s : SystemParts) (f : Format) (judged : Bool) (old new : Option (List ℕ))
+    (failed : Bool) (r : Result Findings ReplayFault) → IsDescribed text s → ReplaysIn s lines f judged old new failed r
     → IfErr r (λ e. IsFaultOfReplay e text lines)
-replay_refused text lines s f old new failed (Ok x) d h = tt
-replay_refused text lines s f old new failed (Err (Check (check.Front e))) d h = absurd h
-replay_refused text lines s f old new failed (Err (Check (check.Check e))) d h = absurd h
-replay_refused text lines s f old new failed (Err (Check (check.Schedule e))) d h =
+replay_refused text lines s f judged old new failed (Ok found) d h = tt
+replay_refused text lines s f judged old new failed (Err (Check (check.Front e))) d h = absurd h
+replay_refused text lines s f judged old new failed (Err (Check (check.Check e))) d h = absurd h
+replay_refused text lines s f judged old new failed (Err (Check (check.Schedule e))) d h =
     (h.0, record { parts = s; described = d; fault = sym h.1.answer })
-replay_refused text lines s f old new failed (Err (Check check.Memory)) d h = tt
-replay_refused text lines s f old new failed (Err (Check check.Write)) d h = tt
-replay_refused text lines s f old new failed (Err Differs) d h = tt
+replay_refused text lines s f judged old new failed (Err (Check check.Memory)) d h = tt
+replay_refused text lines s f judged old new failed (Err (Check check.Write)) d h = tt
+replay_refused text lines s f judged old new failed (Err Differs) d h = tt
 
 -- nothing is shown if the text has no system
-pub unread_replay : (text lines : List ℕ) (f : Format) (old : Option (List ℕ)) (failed : Bool) (e : CheckScheduleFault)
-    → failed ≡ false → IsFaultBefore e text → ShowsReplay text lines f old old failed (Err (Check e))
-unread_replay text lines f old failed (check.Front e) well h = (well, Keeps-refl old)
-unread_replay text lines f old failed (check.Check e) well h = (well, Keeps-refl old)
-unread_replay text lines f old failed (check.Schedule e) well h = absurd h
-unread_replay text lines f old failed check.Memory well h = inl (Keeps-refl old)
-unread_replay text lines f old failed check.Write well h = absurd h
+pub unread_replay : (text lines : List ℕ) (f : Format) (judged : Bool) (old : Option (List ℕ)) (failed : Bool)
+    (e : CheckScheduleFault) → failed ≡ false → IsFaultBefore e text
+    → ShowsReplay text lines f judged old old failed (Err (Check e))
+unread_replay text lines f judged old failed (check.Front e) well h = (well, Keeps-refl old)
+unread_replay text lines f judged old failed (check.Check e) well h = (well, Keeps-refl old)
+unread_replay text lines f judged old failed (check.Schedule e) well h = absurd h
+unread_replay text lines f judged old failed check.Memory well h = inl (Keeps-refl old)
+unread_replay text lines f judged old failed check.Write well h = absurd h
 
 pub ruleset text_rules = (before_refused, unread_replay, replayed, replay_refused)
 

@@ -33,6 +33,11 @@ found_by Unasked s entries = findings_of [] []
 found_by Silent s entries = schedule_findings s entries
 found_by Told s entries = schedule_findings s entries
 
+-- what they come to if a schedule is shown: nothing is found if they are not asked for
+abbrev pub found_if : Bool → SystemParts → List PlainEntry → Findings
+found_if true s entries = schedule_findings s entries
+found_if false s entries = findings_of [] []
+
 -- if the bytes of the output are known, they grow by what is said of an execution: the line, and behind it the verdicts
 -- if they are told; and what the verdicts come to is returned. If writing failed, they grow by a beginning of that, and
 -- the output says that it failed; after every other fault nothing was written

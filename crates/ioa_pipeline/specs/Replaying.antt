@@ -8,6 +8,7 @@ use Rattle.ioa_schedule_check.specs.declared.fault.ScheduleFault.{ScheduleFault}
 use Rattle.ioa_schedule_check.specs.declared.fault.ScheduleFault.TheVariants as schedule
 use Rattle.ioa_schedule_check.specs.Schedules.{schedule_answer}
 use Rattle.ioa_schedule_check.specs.Taken.{IsRefusedIf, IsWholeIf, answer_by, taken_of}
+use Rattle.ioa_monitor.specs.declared.findings.Findings.{Findings}
 use Rattle.ioa_paper.specs.declared.fault.ReportFault.{ReportFault}
 use Rattle.ioa_paper.specs.declared.fault.ReportFault.TheVariants as report
 use Rattle.ioa_tell.specs.Schedules.{TellsSchedule}
@@ -25,6 +26,7 @@ use Rattle.ioa_pipeline.specs.declared.schedule_check.CheckScheduleFault.TheVari
 use Rattle.ioa_pipeline.specs.declared.tracing.Format.{Format}
 use Rattle.ioa_pipeline.specs.declared.tracing.Format.TheVariants as format
 use Rattle.ioa_pipeline.specs.Described.{IsDescribed, IsExactBy}
+use Rattle.ioa_pipeline.specs.Judging.{found_if}
 use Rattle.ioa_pipeline.specs.ScheduleChecks.{IsFaultOfCheck, check_schedule_fault_text}
 use Rattle.ioa_pipeline.specs.Tracing.{fresh_teller}
 
@@ -87,20 +89,40 @@ ShowsSteps s entries refused f old new failed (Err (Check check.Write)) =
     IsReplayPart f s entries old new failed report.Write
 ShowsSteps s entries refused f old new failed (Err Differs) = ⊤
 
--- the same of a schedule that has a refusal or none: if it has one, that is told once the steps were shown
-abbrev pub ShowsGiven : SystemParts → List PlainEntry → Option PlainEntry → Option ScheduleFault → Format
-    → (old new : Option (List ℕ)) → Bool → Result (Unit {0}) ReplayFault → Type 0
-ShowsGiven s entries refused None f old new failed r = ShowsSteps s entries refused f old new failed r
-ShowsGiven s entries refused (Some e) f old new failed (Ok x) = ⊥
-ShowsGiven s entries refused (Some e) f old new failed (Err (Check (check.Front g))) = ⊥
-ShowsGiven s entries refused (Some e) f old new failed (Err (Check (check.Check g))) = ⊥
-ShowsGiven s entries refused (Some e) f old new failed (Err (Check (check.Schedule g))) =
-    (g ≡ e) × (e ≡ schedule.Memory → ⊥) × IsReplayShown f s entries refused old new failed
-ShowsGiven s entries refused (Some e) f old new failed (Err (Check check.Memory)) =
+-- the same with what the verdicts along these steps come to, if they are asked for; if memory ran out for them, nothing
+-- went out
+abbrev pub ShowsJudged : SystemParts → List PlainEntry → Option PlainEntry → Format → Bool → (old new : Option (List ℕ))
+    → Bool → Result Findings ReplayFault → Type 0
+ShowsJudged s entries refused f judged old new failed (Ok found) =
+    (found ≡ found_if judged s entries) × IsReplayShown f s entries refused old new failed
+ShowsJudged s entries refused f judged old new failed (Err (Check (check.Front e))) = ⊥
+ShowsJudged s entries refused f judged old new failed (Err (Check (check.Check e))) = ⊥
+ShowsJudged s entries refused f judged old new failed (Err (Check (check.Schedule e))) = ⊥
+ShowsJudged s entries refused f judged old new failed (Err (Check check.Memory)) =
     Keeps old new ⊎ IsReplayPart f s entries old new failed report.Memory
-ShowsGiven s entries refused (Some e) f old new failed (Err (Check check.Write)) =
+ShowsJudged s entries refused f judged old new failed (Err (Check check.Write)) =
     IsReplayPart f s entries old new failed report.Write
-ShowsGiven s entries refused (Some e) f old new failed (Err Differs) = ⊤
+ShowsJudged s entries refused f judged old new failed (Err Differs) = ⊤
+
+-- how the steps before a refusal are shown, which is told then
+abbrev pub ShowsRefused : SystemParts → List PlainEntry → Option PlainEntry → ScheduleFault → Format
+    → (old new : Option (List ℕ)) → Bool → Result Findings ReplayFault → Type 0
+ShowsRefused s entries refused e f old new failed (Ok found) = ⊥
+ShowsRefused s entries refused e f old new failed (Err (Check (check.Front g))) = ⊥
+ShowsRefused s entries refused e f old new failed (Err (Check (check.Check g))) = ⊥
+ShowsRefused s entries refused e f old new failed (Err (Check (check.Schedule g))) =
+    (g ≡ e) × (e ≡ schedule.Memory → ⊥) × IsReplayShown f s entries refused old new failed
+ShowsRefused s entries refused e f old new failed (Err (Check check.Memory)) =
+    Keeps old new ⊎ IsReplayPart f s entries old new failed report.Memory
+ShowsRefused s entries refused e f old new failed (Err (Check check.Write)) =
+    IsReplayPart f s entries old new failed report.Write
+ShowsRefused s entries refused e f old new failed (Err Differs) = ⊤
+
+-- how a schedule is shown that has a refusal or none: only if it has none, there are verdicts
+abbrev pub ShowsGiven : SystemParts → List PlainEntry → Option PlainEntry → Option ScheduleFault → Format → Bool
+    → (old new : Option (List ℕ)) → Bool → Result Findings ReplayFault → Type 0
+ShowsGiven s entries refused None f judged old new failed r = ShowsJudged s entries refused f judged old new failed r
+ShowsGiven s entries refused (Some e) f judged old new failed r = ShowsRefused s entries refused e f old new failed r
 
 -- the steps that lines take from the start of a system went out whole, and behind them the entry that is no step; this
 -- is the refusal of the lines, if they have one. If they have none, they are an execution, and these are its entries
@@ -112,41 +134,43 @@ pub record IsReplayIn (s : SystemParts) (lines : List ℕ) (f : Format) (refusal
   pub is_refused : IsRefusedIf refusal s lines (taken_of s lines) refused
   pub shown : IsReplayShown f s (taken_of s lines) refused old new failed
 
--- how the lines of a schedule are shown in a system
-abbrev pub ReplaysIn : SystemParts → (lines : List ℕ) → Format → (old new : Option (List ℕ)) → Bool
-    → Result (Unit {0}) ReplayFault → Type 0
-ReplaysIn s lines f old new failed (Ok x) = IsReplayIn s lines f None old new failed
-ReplaysIn s lines f old new failed (Err (Check (check.Front e))) = ⊥
-ReplaysIn s lines f old new failed (Err (Check (check.Check e))) = ⊥
-ReplaysIn s lines f old new failed (Err (Check (check.Schedule e))) =
+-- how the lines of a schedule are shown in a system; what is found are the verdicts along them, if they are asked for
+abbrev pub ReplaysIn : SystemParts → (lines : List ℕ) → Format → Bool → (old new : Option (List ℕ)) → Bool
+    → Result Findings ReplayFault → Type 0
+ReplaysIn s lines f judged old new failed (Ok found) =
+    (found ≡ found_if judged s (taken_of s lines)) × IsReplayIn s lines f None old new failed
+ReplaysIn s lines f judged old new failed (Err (Check (check.Front e))) = ⊥
+ReplaysIn s lines f judged old new failed (Err (Check (check.Check e))) = ⊥
+ReplaysIn s lines f judged old new failed (Err (Check (check.Schedule e))) =
     (e ≡ schedule.Memory → ⊥) × IsReplayIn s lines f (Some e) old new failed
-ReplaysIn s lines f old new failed (Err (Check check.Memory)) =
+ReplaysIn s lines f judged old new failed (Err (Check check.Memory)) =
     Keeps old new ⊎ IsReplayPart f s (taken_of s lines) old new failed report.Memory
-ReplaysIn s lines f old new failed (Err (Check check.Write)) =
+ReplaysIn s lines f judged old new failed (Err (Check check.Write)) =
     IsReplayPart f s (taken_of s lines) old new failed report.Write
-ReplaysIn s lines f old new failed (Err Differs) = ⊤
+ReplaysIn s lines f judged old new failed (Err Differs) = ⊤
 
 -- the same in a system that a text describes
-pub record IsReplayOf (text lines : List ℕ) (f : Format) (old new : Option (List ℕ)) (failed : Bool)
-    (result : Result (Unit {0}) ReplayFault) : Type 0 where
+pub record IsReplayOf (text lines : List ℕ) (f : Format) (judged : Bool) (old new : Option (List ℕ)) (failed : Bool)
+    (result : Result Findings ReplayFault) : Type 0 where
   pub parts : SystemParts
   pub described : IsDescribed text parts
-  pub replays : ReplaysIn parts lines f old new failed result
+  pub replays : ReplaysIn parts lines f judged old new failed result
 
--- the schedule that is given beside a text was shown; before a fault of the text nothing was written, nor if memory ran
--- out before the steps were taken. Before a refusal of the lines what is before it was shown
-abbrev pub ShowsReplay : (text lines : List ℕ) → Format → (old new : Option (List ℕ)) → Bool
-    → Result (Unit {0}) ReplayFault → Type 0
-ShowsReplay text lines f old new failed (Ok x) = IsReplayOf text lines f old new failed (Ok x)
-ShowsReplay text lines f old new failed (Err (Check (check.Front e))) = (failed ≡ false) × Keeps old new
-ShowsReplay text lines f old new failed (Err (Check (check.Check e))) = (failed ≡ false) × Keeps old new
-ShowsReplay text lines f old new failed (Err (Check (check.Schedule e))) =
-    IsReplayOf text lines f old new failed (Err (Check (check.Schedule e)))
-ShowsReplay text lines f old new failed (Err (Check check.Memory)) =
-    Keeps old new ⊎ IsReplayOf text lines f old new failed (Err (Check check.Memory))
-ShowsReplay text lines f old new failed (Err (Check check.Write)) =
-    IsReplayOf text lines f old new failed (Err (Check check.Write))
-ShowsReplay text lines f old new failed (Err Differs) = ⊤
+-- the schedule that is given beside a text was shown, and what its verdicts come to is returned, if they are asked for;
+-- before a fault of the text nothing was written, nor if memory ran out before the steps were taken, or for the
+-- verdicts. Before a refusal of the lines what is before it was shown
+abbrev pub ShowsReplay : (text lines : List ℕ) → Format → Bool → (old new : Option (List ℕ)) → Bool
+    → Result Findings ReplayFault → Type 0
+ShowsReplay text lines f judged old new failed (Ok found) = IsReplayOf text lines f judged old new failed (Ok found)
+ShowsReplay text lines f judged old new failed (Err (Check (check.Front e))) = (failed ≡ false) × Keeps old new
+ShowsReplay text lines f judged old new failed (Err (Check (check.Check e))) = (failed ≡ false) × Keeps old new
+ShowsReplay text lines f judged old new failed (Err (Check (check.Schedule e))) =
+    IsReplayOf text lines f judged old new failed (Err (Check (check.Schedule e)))
+ShowsReplay text lines f judged old new failed (Err (Check check.Memory)) =
+    Keeps old new ⊎ IsReplayOf text lines f judged old new failed (Err (Check check.Memory))
+ShowsReplay text lines f judged old new failed (Err (Check check.Write)) =
+    IsReplayOf text lines f judged old new failed (Err (Check check.Write))
+ShowsReplay text lines f judged old new failed (Err Differs) = ⊤
 
 -- what a fault says of the text and the lines
 abbrev pub IsFaultOfReplay : ReplayFault → (text lines : List ℕ) → Type 0

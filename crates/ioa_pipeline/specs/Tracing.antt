@@ -6,6 +6,7 @@ use Rattle.ioa_system.specs.Systems.{SystemParts}
 use Rattle.ioa_record.specs.Options.{PlainOptions}
 use Rattle.ioa_record.specs.declared.ending.Ending.{Ending}
 use Rattle.ioa_record.specs.declared.record.Record.{Record}
+use Rattle.ioa_monitor.specs.declared.findings.Findings.{Findings}
 use Rattle.ioa_paper.specs.declared.fault.ReportFault.{ReportFault}
 use Rattle.ioa_paper.specs.declared.fault.ReportFault.TheVariants as report
 use Rattle.ioa_tell.specs.Told.{TellsRun}
@@ -17,6 +18,7 @@ use Rattle.ioa_show.specs.Sequences.{sequence_of}
 use Rattle.ioa_show.specs.Shown.{PutsText, PutsWhole}
 use Rattle.ioa_show.specs.States.{states_text}
 use Rattle.ioa_show.specs.Steps.{steps_text}
+use Rattle.ioa_pipeline.specs.Judging.{found_if}
 use Rattle.ioa_pipeline.specs.WholeRun.{IsLeftBy, IsRefusalOf, run_fault_text}
 use Rattle.ioa_pipeline.specs.declared.whole_run.RunFault.TheVariants as run
 use Rattle.ioa_pipeline.specs.declared.tracing.Format.{Format}
@@ -97,13 +99,30 @@ abbrev pub ShowsLeft : SystemParts → ℕ → Record → List Ending → Format
 ShowsLeft s attempts left endings f old new failed (Ok x) = IsShown f s attempts left endings old new failed
 ShowsLeft s attempts left endings f old new failed (Err e) = IsBegun f s left endings old new failed e
 
--- a run of a system that the text describes, with these options, and how it is shown
-pub record IsRunShown (text : List ℕ) (options : PlainOptions) (f : Format) (old new : Option (List ℕ)) (failed : Bool)
-    : Type 0 where
+-- the same with what the verdicts along its schedule come to, if they are asked for; if memory ran out for them,
+-- nothing went out
+abbrev pub ShowsJudged : SystemParts → ℕ → Record → List Ending → Format → Bool → (old new : Option (List ℕ)) → Bool
+    → Result Findings TraceFault → Type 0
+ShowsJudged s attempts left endings f judged old new failed (Ok found) =
+    (found ≡ found_if judged s left.schedule) × IsShown f s attempts left endings old new failed
+ShowsJudged s attempts left endings f judged old new failed (Err (Run (run.Front e))) = ⊥
+ShowsJudged s attempts left endings f judged old new failed (Err (Run (run.Check e))) = ⊥
+ShowsJudged s attempts left endings f judged old new failed (Err (Run (run.Finish e))) = ⊥
+ShowsJudged s attempts left endings f judged old new failed (Err (Run run.Memory)) =
+    Keeps old new ⊎ IsPartOf f s left endings old new failed report.Memory
+ShowsJudged s attempts left endings f judged old new failed (Err (Run run.Write)) =
+    IsPartOf f s left endings old new failed report.Write
+ShowsJudged s attempts left endings f judged old new failed (Err Differs) = ⊤
+
+-- a run of a system that the text describes, with these options, and how it is shown; what is found are the verdicts
+-- along its schedule, if they are asked for
+pub record IsRunShown (text : List ℕ) (options : PlainOptions) (f : Format) (judged : Bool) (old new : Option (List ℕ))
+    (failed : Bool) (found : Findings) : Type 0 where
   pub parts : SystemParts
   pub left : Record
   pub endings : List Ending
   pub run : IsLeftBy text options parts left endings
+  pub judges : found ≡ found_if judged parts left.schedule
   pub shown : IsShown f parts options.attempts left endings old new failed
 
 -- a run of a system that the text describes, with these options, and what went out of it before a fault
@@ -115,19 +134,20 @@ pub record IsRunBegun (text : List ℕ) (options : PlainOptions) (f : Format) (o
   pub run : IsLeftBy text options parts left endings
   pub begun : IsBegun f parts left endings old new failed e
 
--- the run of a text was shown; before a fault that the text or the run has nothing was written, nor if memory ran out
--- before the run was over; and else what a fault left
-abbrev pub ShowsRun : List ℕ → PlainOptions → Format → (old new : Option (List ℕ)) → Bool
-    → Result (Unit {0}) TraceFault → Type 0
-ShowsRun text options f old new failed (Ok x) = IsRunShown text options f old new failed
-ShowsRun text options f old new failed (Err (Run (run.Front e))) = (failed ≡ false) × Keeps old new
-ShowsRun text options f old new failed (Err (Run (run.Check e))) = (failed ≡ false) × Keeps old new
-ShowsRun text options f old new failed (Err (Run (run.Finish e))) = (failed ≡ false) × Keeps old new
-ShowsRun text options f old new failed (Err (Run run.Memory)) =
+-- the run of a text was shown, and what its verdicts come to is returned, if they are asked for; before a fault that
+-- the text or the run has nothing was written, nor if memory ran out before the run was over, or for the verdicts; and
+-- else what a fault left
+abbrev pub ShowsRun : List ℕ → PlainOptions → Format → Bool → (old new : Option (List ℕ)) → Bool
+    → Result Findings TraceFault → Type 0
+ShowsRun text options f judged old new failed (Ok found) = IsRunShown text options f judged old new failed found
+ShowsRun text options f judged old new failed (Err (Run (run.Front e))) = (failed ≡ false) × Keeps old new
+ShowsRun text options f judged old new failed (Err (Run (run.Check e))) = (failed ≡ false) × Keeps old new
+ShowsRun text options f judged old new failed (Err (Run (run.Finish e))) = (failed ≡ false) × Keeps old new
+ShowsRun text options f judged old new failed (Err (Run run.Memory)) =
     Keeps old new ⊎ IsRunBegun text options f old new failed (Run run.Memory)
-ShowsRun text options f old new failed (Err (Run run.Write)) =
+ShowsRun text options f judged old new failed (Err (Run run.Write)) =
     IsRunBegun text options f old new failed (Run run.Write)
-ShowsRun text options f old new failed (Err Differs) = ⊤
+ShowsRun text options f judged old new failed (Err Differs) = ⊤
 
 -- what a fault says of the text: that of the run, if it is one
 abbrev pub IsRefusalOfTrace : TraceFault → List ℕ → Type 0

@@ -1,6 +1,6 @@
 //! Whole runs, from a text to its report; runs and schedules shown step by step; checks of schedules, from a text and
-//! a schedule to what is to be said of them; and texts laid out anew. Reading, checking, running, reporting and printing meet here
-//! and nowhere else.
+//! a schedule to what is to be said of them; and texts laid out anew. Reading, checking, running, reporting and
+//! printing meet here and nowhere else.
 //!
 //! **A crate of its own**, since it alone stands on all five.
 //!
@@ -8,6 +8,7 @@
 #![tactic(auto)]
 
 mod described;
+mod found;
 mod judging;
 mod printing;
 mod replaying;

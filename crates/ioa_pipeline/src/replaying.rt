@@ -1,17 +1,18 @@
 //! Schedules that are given beside a text, shown step by step, or as pictures.
 
-ghost use Rattle.std.specs.Prelude.{◌≡◌, false, IfErr, OnOk, Some};
+ghost use Rattle.std.specs.Prelude.{◌≡◌, false, IfErr, OnOk};
 ghost use Rattle.std.specs.Option.{option_copied};
 ghost use Rattle.ioa_show.specs.Shown.{Continues};
 ghost use Rattle.ioa_tell.specs.Schedules.{TellsSchedule};
 ghost use Rattle.ioa_tell_text.specs.Teller.{teller_after, teller_refused};
 ghost use Rattle.ioa_pipeline.specs.Replaying as spec;
 ghost use Rattle.ioa_pipeline.specs.Replaying.{IsExactForReplay, IsFaultOfReplay, ReplaysIn, ShowsGiven, ShowsReplay};
-ghost use Rattle.ioa_pipeline.specs.Replaying.{ShowsSteps};
+ghost use Rattle.ioa_pipeline.specs.Replaying.{ShowsJudged, ShowsRefused, ShowsSteps};
 
+use crate::found::found_along;
 use crate::schedule_check::{CheckScheduleFault, system_to_check};
 use crate::tracing::Format;
-use ioa_monitor::ReportFault;
+use ioa_monitor::{Findings, ReportFault};
 use ioa_paper::room;
 use ioa_rawlog::RawLog;
 use ioa_schedule_check::{GivenSchedule, ScheduleFault, given_schedule};
@@ -52,22 +53,25 @@ impl fmt::Display for ReplayFault {
 /// Takes the steps that the lines of a schedule spell, from the start of the system that a text describes, and shows
 /// them in a format, as a run is shown. It stops at the first line that spells no entry, and at the first entry that
 /// is no step. As text, the last line then says which entry that is, and why. Nothing tells of endings, since a
-/// schedule has none. `Memory` (3) may come when a beginning went out; but of a picture, as SVG or for Mermaid, nothing
-/// did then. What it takes of memory grows with the steps.
+/// schedule has none. If the lines are an execution, returns what the verdicts on the invariants along them come to, if
+/// they are asked for; else none is evaluated, and nothing is found. What goes out is the same. Memory for the verdicts
+/// is asked for before anything is shown. `Memory` (3) may come when a beginning went out; but of a picture, as SVG or
+/// for Mermaid, nothing did then. What it takes of memory grows with the steps.
 pub fn trace_schedule<O: Out>(
     alloc: Global,
     text: &str,
     lines: &str,
     format: Format,
+    is_judged: bool,
     out: &mut O,
-) -> Result<(), ReplayFault>
+) -> Result<Findings, ReplayFault>
     requires { O.failed out.old ≡ false }
-    ensures shown { ShowsReplay text.now lines.now format
+    ensures shown { ShowsReplay text.now lines.now format is_judged
         (O.bytes out.old) (O.bytes out.new) (O.failed out.new) result }
     ensures refused { IfErr result (λ f. IsFaultOfReplay f text.now lines.now) }
     ensures exact { IsExactForReplay result text.now }
 {
-    show_schedule(alloc, text, lines, format, out)
+    show_schedule(alloc, text, lines, format, is_judged, out)
 }
 
 /// The same, by the system that the text describes.
@@ -77,16 +81,17 @@ fn show_schedule<O: Out>(
     text: &str,
     lines: &str,
     format: Format,
+    is_judged: bool,
     out: &mut O,
-) -> Result<(), ReplayFault>
+) -> Result<Findings, ReplayFault>
     requires { O.failed out.old ≡ false }
-    ensures shown { ShowsReplay text.now lines.now format
+    ensures shown { ShowsReplay text.now lines.now format is_judged
         (O.bytes out.old) (O.bytes out.new) (O.failed out.new) result }
     ensures refused { IfErr result (λ f. IsFaultOfReplay f text.now lines.now) }
     ensures exact { IsExactForReplay result text.now }
 {
     match system_to_check(alloc, text) {
-        Ok(system) => show_in(alloc, &system, lines, format, out),
+        Ok(system) => show_in(alloc, &system, lines, format, is_judged, out),
         Err(fault) => Err(ReplayFault::Check(fault)),
     }
 }
@@ -98,14 +103,15 @@ fn show_in<O: Out>(
     system: &System,
     lines: &str,
     format: Format,
+    is_judged: bool,
     out: &mut O,
-) -> Result<(), ReplayFault>
+) -> Result<Findings, ReplayFault>
     requires { O.failed out.old ≡ false }
-    ensures { ReplaysIn system.now lines.now format
+    ensures { ReplaysIn system.now lines.now format is_judged
         (O.bytes out.old) (O.bytes out.new) (O.failed out.new) result }
 {
     match given_schedule(alloc, system, lines) {
-        Ok(given) => show_given(alloc, system, &given, format, out),
+        Ok(given) => show_given(alloc, system, &given, format, is_judged, out),
         Err(AllocError) => Err(ReplayFault::Check(CheckScheduleFault::Memory)),
     }
 }
@@ -117,17 +123,42 @@ fn show_given<O: Out>(
     system: &System,
     given: &GivenSchedule,
     format: Format,
+    is_judged: bool,
     out: &mut O,
-) -> Result<(), ReplayFault>
+) -> Result<Findings, ReplayFault>
     requires { O.failed out.old ≡ false }
-    ensures { ShowsGiven system.now given.now.taken given.now.refused given.now.refusal format
+    ensures { ShowsGiven system.now given.now.taken given.now.refused given.now.refusal format is_judged
         (O.bytes out.old) (O.bytes out.new) (O.failed out.new) result }
 {
     let refused = given.refused.as_ref();
     match given.refusal {
-        None => show_steps(alloc, system, &given.taken, refused, format, out),
+        None => show_judged(alloc, system, &given.taken, refused, format, is_judged, out),
         Some(ScheduleFault::Memory) => Err(ReplayFault::Check(CheckScheduleFault::Memory)),
         Some(fault) => show_refused(alloc, system, &given.taken, refused, fault, format, out),
+    }
+}
+
+/// Shows the steps of a schedule that has no refusal, and returns what its verdicts come to, if they are asked for.
+#[tactic(auto, using(crate::proofs::Replays::judged_rules))]
+fn show_judged<O: Out>(
+    alloc: Global,
+    system: &System,
+    taken: &RawLog<Entry>,
+    refused: Option<&Entry>,
+    format: Format,
+    is_judged: bool,
+    out: &mut O,
+) -> Result<Findings, ReplayFault>
+    requires { O.failed out.old ≡ false }
+    ensures { ShowsJudged system.now taken.now (option_copied refused.entry) format is_judged
+        (O.bytes out.old) (O.bytes out.new) (O.failed out.new) result }
+{
+    match found_along(alloc, system, taken, is_judged) {
+        Ok(found) => match show_steps(alloc, system, taken, refused, format, out) {
+            Ok(()) => Ok(found),
+            Err(fault) => Err(fault),
+        },
+        Err(AllocError) => Err(ReplayFault::Check(CheckScheduleFault::Memory)),
     }
 }
 
@@ -141,10 +172,10 @@ fn show_refused<O: Out>(
     fault: ScheduleFault,
     format: Format,
     out: &mut O,
-) -> Result<(), ReplayFault>
+) -> Result<Findings, ReplayFault>
     requires well { O.failed out.old ≡ false }
     requires other { fault ≡ ScheduleFault.Memory → ⊥ }
-    ensures { ShowsGiven system.now taken.now (option_copied refused.entry) (Some fault) format
+    ensures { ShowsRefused system.now taken.now (option_copied refused.entry) fault format
         (O.bytes out.old) (O.bytes out.new) (O.failed out.new) result }
 {
     match show_steps(alloc, system, taken, refused, format, out) {

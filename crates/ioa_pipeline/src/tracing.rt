@@ -5,11 +5,12 @@ ghost use Rattle.ioa_show.specs.Shown.{Continues};
 ghost use Rattle.ioa_tell.specs.Told.{TellsRun};
 ghost use Rattle.ioa_tell_text.specs.Teller.{teller_after};
 ghost use Rattle.ioa_pipeline.specs.Tracing as spec;
-ghost use Rattle.ioa_pipeline.specs.Tracing.{IsRefusalOfTrace, ShowsLeft, ShowsRun};
+ghost use Rattle.ioa_pipeline.specs.Tracing.{IsRefusalOfTrace, ShowsJudged, ShowsLeft, ShowsRun};
 
+use crate::found::found_along;
 use crate::whole_run::{RunFault, run_of};
 use ioa_boards::Open;
-use ioa_monitor::ReportFault;
+use ioa_monitor::{Findings, ReportFault};
 use ioa_paper::room;
 use ioa_record::{Ending, Options, Record};
 use ioa_show::{itf, json, mermaid, svg};
@@ -73,7 +74,9 @@ impl From<RunFault> for TraceFault {
 }
 
 /// Runs the system that a text describes, with these options, and shows the run in a format. With the options of one
-/// worker it is the run that [`run_system`](crate::run_system) reports. `Memory` (3) may come when a beginning went
+/// worker it is the run that [`run_system`](crate::run_system) reports. Returns what the verdicts on the invariants
+/// along its schedule come to, if they are asked for; else none is evaluated, and nothing is found. What goes out is
+/// the same. Memory for the verdicts is asked for before anything is shown. `Memory` (3) may come when a beginning went
 /// out; but of a picture, as SVG or for Mermaid, nothing did then.
 #[tactic(auto, using(crate::proofs::Shown::runs))]
 pub fn trace_text<R: Threads + Wait + Sync, O: Out>(
@@ -82,15 +85,43 @@ pub fn trace_text<R: Threads + Wait + Sync, O: Out>(
     text: &str,
     options: &Options,
     format: Format,
+    is_judged: bool,
     out: &mut O,
-) -> Result<(), TraceFault>
+) -> Result<Findings, TraceFault>
     requires { O.failed out.old ≡ false }
-    ensures shown { ShowsRun text.now options.now format
+    ensures shown { ShowsRun text.now options.now format is_judged
         (O.bytes out.old) (O.bytes out.new) (O.failed out.new) result }
     ensures refused { IfErr result (λ f. IsRefusalOfTrace f text.now) }
 {
     let (system, record, endings) = run_of(rt, alloc, text, options, &Open)?;
-    show(alloc, &system, options, &record, &endings, format, out)
+    show_judged(
+        alloc, &system, options, &record, &endings, format, is_judged, out,
+    )
+}
+
+/// Shows a run that left this record and these endings, and returns what its verdicts come to, if they are asked for.
+#[tactic(auto, using(crate::proofs::Shown::judged_rules))]
+fn show_judged<O: Out>(
+    alloc: Global,
+    system: &System,
+    options: &Options,
+    run_record: &Record,
+    endings: &[Ending],
+    format: Format,
+    is_judged: bool,
+    out: &mut O,
+) -> Result<Findings, TraceFault>
+    requires { O.failed out.old ≡ false }
+    ensures { ShowsJudged system.now options.now.attempts run_record.now endings.now format is_judged
+        (O.bytes out.old) (O.bytes out.new) (O.failed out.new) result }
+{
+    match found_along(alloc, system, &run_record.schedule, is_judged) {
+        Ok(found) => match show(alloc, system, options, run_record, endings, format, out) {
+            Ok(()) => Ok(found),
+            Err(fault) => Err(fault),
+        },
+        Err(AllocError) => Err(TraceFault::Run(RunFault::Memory)),
+    }
 }
 
 /// Shows a run that left this record and these endings.
