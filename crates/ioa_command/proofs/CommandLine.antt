@@ -12,9 +12,10 @@ use Rattle.clap.specs.declared.parser.matches.ArgMatches.{ArgMatches}
 use Rattle.clap.specs.declared.parser.matches.Found.{Found}
 use Rattle.clap.proofs.WalkLemmas.{one_text-rows}
 use Rattle.ioa_command.specs.Choices.{Finds, Settles}
-use Rattle.ioa_command.specs.CommandLine.{AreTaken, ChoosesNothing, IsChosenBy, IsNumberOf, program_app}
+use Rattle.ioa_command.specs.CommandLine.{AreTaken, Chooses, ChoosesNothing, IsChosenBy, IsNumberOf, program_app}
 use Rattle.ioa_command.specs.declared.choice.ChoiceFault.{ChoiceFault}
 use Rattle.ioa_command.specs.declared.choice.ChoiceFault.TheVariants.{Nothing}
+use Rattle.ioa_command.specs.declared.choice.Subcommand.{Subcommand}
 use Rattle.ioa_command.specs.declared.choice.WordsFault.{WordsFault}
 
 -- ---- numbers
@@ -63,6 +64,13 @@ pub takes_are : (a : App) (words : List Text) → a ≡ program_app → (is_simp
 takes_are a words is kinds =
     let told = subst (λ (b : App). is_simple_and_free b ≡ true → fault_of b words ≡ []) is kinds in
     told refl
+
+-- the words choose what the matches do
+pub chosen_is : (a : App) (words : List Text) (m : ArgMatches) (choice : Subcommand) → a ≡ program_app
+    → HasMatchesOf a words m → IsChosenBy (subcommand_rows_of m) choice → Chooses words choice
+chosen_is a words m choice is has chosen =
+    let matches = subst (λ (b : App). HasMatchesOf b words m) is has in
+    subst (λ o. IsChosenBy o choice) (matches refl).1 chosen
 
 -- the words choose nothing if the matches do
 pub nothing_is : (a : App) (words : List Text) (m : ArgMatches) (f : ChoiceFault) (why : WordsFault) → a ≡ program_app

@@ -36,7 +36,7 @@ use Rattle.ioa_command.specs.declared.choice.Subcommand.TheVariants as subcomman
 use Rattle.ioa_command.specs.declared.faults.TextFault.{TextFault}
 use Rattle.ioa_command.specs.declared.faults.TextFault.TheVariants.{Input, Unread, Run, Explain, Trace, Check, Print}
 use Rattle.ioa_pipeline.specs.declared.judging.Judging.{Judging}
-use Rattle.ioa_command.specs.Command.{ChecksGivenIn, ChecksIn, IsFound, Judges}
+use Rattle.ioa_command.specs.Command.{ChecksGivenIn, ChecksIn, IsFound, Judges, Replays, Traces}
 use Rattle.ioa_command.specs.Command.{Ends, Executes, Follows, IsDone, IsTraced, Output, Prints, PrintsText, Reports}
 use Rattle.ioa_command.specs.Command.{ExplainsAs, ExplainsText, IsExplained, RunsText, ShowsWords, Tells, TracesText}
 use Rattle.ioa_command.specs.Command.{IsReplayed, ReplaysRefused, ReplaysSchedule}
@@ -193,19 +193,19 @@ judges words given out err status c outcome chosen followed told free =
     let done = done_of_told (found_status c.fail_on) err status outcome told free in
     (c, chosen, (done.0, subst (Follows c given out) done.1 followed, done.2))
 
-trace_done : (given : Option (List ℕ)) (out err : Output) (status : ℕ) (t : TraceChoice)
-    (outcome : Result (Unit {0}) TextFault) → IsTraced t given out outcome → Tells no_finding err status outcome
-    → IsOfNoFault status → TracesText t given out (Ok tt)
-trace_done given out err status t outcome traced told free =
-    let done = done_of_told no_finding err status outcome told free in
-    subst (IsTraced t given out) done.1 traced
+traces : (words : List Text) (given : Option (List ℕ)) (out err : Output) (status : ℕ) (t : TraceChoice)
+    (outcome : Result Findings TextFault) → Chooses words (subcommand.Trace t) → IsTraced t given out outcome
+    → Tells (found_status t.fail_on) err status outcome → IsOfNoFault status → Traces words given out status
+traces words given out err status t outcome chosen traced told free =
+    let done = done_of_told (found_status t.fail_on) err status outcome told free in
+    (t, chosen, (done.0, subst (IsTraced t given out) done.1 traced, done.2))
 
-replay_done : (given : Option (List ℕ)) (out err : Output) (status : ℕ) (r : ReplayChoice)
-    (outcome : Result (Unit {0}) TextFault) → IsReplayed r given out outcome → Tells no_finding err status outcome
-    → IsOfNoFault status → ReplaysSchedule r given out (Ok tt)
-replay_done given out err status r outcome replayed told free =
-    let done = done_of_told no_finding err status outcome told free in
-    subst (IsReplayed r given out) done.1 replayed
+replays : (words : List Text) (given : Option (List ℕ)) (out err : Output) (status : ℕ) (r : ReplayChoice)
+    (outcome : Result Findings TextFault) → Chooses words (subcommand.Replay r) → IsReplayed r given out outcome
+    → Tells (found_status r.fail_on) err status outcome → IsOfNoFault status → Replays words given out status
+replays words given out err status r outcome chosen replayed told free =
+    let done = done_of_told (found_status r.fail_on) err status outcome told free in
+    (r, chosen, (done.0, subst (IsReplayed r given out) done.1 replayed, done.2))
 
 -- a status that no fault has is that of what is told of a text, if the words choose `explain`
 explain_done : (words : List Text) (given : Option (List ℕ)) (out err : Output) (status : ℕ) (input : InputName)
@@ -238,13 +238,11 @@ done_of words given out err status (inl (subcommand.Run r, chosen, (outcome, ran
 done_of words given out err status (inl (subcommand.Explain input, chosen, (outcome, explained, told))) done =
     inr (inl (explain_done words given out err status input outcome chosen explained told done))
 done_of words given out err status (inl (subcommand.Trace t, chosen, (outcome, traced, told))) done =
-    inr (inr (inl (t, chosen, trace_done given out err status t outcome traced told (none_is_one status done))))
+    inr (inr (inl (subst (Traces words given out) done
+    (traces words given out err status t outcome chosen traced told (none_is_one status done)))))
 done_of words given out err status (inl (subcommand.Replay r, chosen, (outcome, replayed, told))) done =
-    inr (inr (inr (inl (
-      r,
-      chosen,
-      replay_done given out err status r outcome replayed told (none_is_one status done),
-    ))))
+    inr (inr (inr (inl (subst (Replays words given out) done
+    (replays words given out err status r outcome chosen replayed told (none_is_one status done))))))
 done_of words given out err status (inl (subcommand.Check c, chosen, (outcome, followed, told))) done =
     inr (inr (inr (inr (inl (subst (Judges words given out) done
     (judges words given out err status c outcome chosen followed told (none_is_one status done)))))))
@@ -288,12 +286,14 @@ found_of words given out err status (inl (subcommand.Run r, chosen, (outcome, ra
 found_of words given out err status (inl (subcommand.Explain input, chosen, (outcome, explained, told))) four =
     absurd (explain_finds_none err status outcome told four)
 found_of words given out err status (inl (subcommand.Trace t, chosen, (outcome, traced, told))) four =
-    absurd (finds_none no_finding err status outcome (λ x. refl) told four)
+    inr (inl (subst (Traces words given out) four
+    (traces words given out err status t outcome chosen traced told (four_is_none status four))))
 found_of words given out err status (inl (subcommand.Replay r, chosen, (outcome, replayed, told))) four =
-    absurd (finds_none no_finding err status outcome (λ x. refl) told four)
+    inr (inr (inl (subst (Replays words given out) four
+    (replays words given out err status r outcome chosen replayed told (four_is_none status four)))))
 found_of words given out err status (inl (subcommand.Check c, chosen, (outcome, followed, told))) four =
-    inr (subst (Judges words given out) four
-    (judges words given out err status c outcome chosen followed told (four_is_none status four)))
+    inr (inr (inr (subst (Judges words given out) four
+    (judges words given out err status c outcome chosen followed told (four_is_none status four)))))
 found_of words given out err status (inl (subcommand.Print input, chosen, (outcome, printed, told))) four =
     absurd (finds_none no_finding err status outcome (λ x. refl) told four)
 found_of words given out err status (inr said) four =
@@ -483,10 +483,10 @@ replayed_refused r given out (Check f) replayed refuses = replay_refused r given
 replayed_refused r given out (Print f) replayed refuses = absurd replayed
 
 replay_leaves : (words : List Text) (given : Option (List ℕ)) (out err : Output) (status : ℕ) (r : ReplayChoice)
-    (outcome : Result (Unit {0}) TextFault) → Chooses words (subcommand.Replay r) → IsReplayed r given out outcome
-    → Tells no_finding err status outcome → Refuses status → LeavesRefused words given out
-replay_leaves words given out err status r (Ok x) chosen replayed told refuses =
-    absurd (not_done status refuses told.0)
+    (outcome : Result Findings TextFault) → Chooses words (subcommand.Replay r) → IsReplayed r given out outcome
+    → Tells (found_status r.fail_on) err status outcome → Refuses status → LeavesRefused words given out
+replay_leaves words given out err status r (Ok found) chosen replayed told refuses =
+    absurd (found_free r.fail_on found (subst Refuses told.0 refuses))
 replay_leaves words given out err status r (Err f) chosen replayed told refuses = elim told [
   | inl line ↦ elim (replayed_refused r given out f replayed (subst Refuses line.0 refuses)) [
     | inl kept ↦ inl kept
@@ -503,7 +503,7 @@ refused_of words given out err status (inl (subcommand.Run r, chosen, (outcome, 
 refused_of words given out err status (inl (subcommand.Explain input, chosen, (outcome, explained, told))) refuses =
     explain_leaves words given out err status input outcome chosen explained told refuses
 refused_of words given out err status (inl (subcommand.Trace t, chosen, (outcome, traced, told))) refuses =
-    inl (told_kept no_finding out err status outcome told none_free
+    inl (told_kept (found_status t.fail_on) out err status outcome told (found_free t.fail_on)
     (λ f is. traced_kept t given out f (subst (IsTraced t given out) is traced)) refuses)
 refused_of words given out err status (inl (subcommand.Replay r, chosen, (outcome, replayed, told))) refuses =
     replay_leaves words given out err status r outcome chosen replayed told refuses

@@ -12,6 +12,8 @@ use Rattle.ioa_pipeline.specs.declared.judging.Judging.{Judging}
 use Rattle.ioa_pipeline.specs.declared.schedule_check.CheckScheduleFault.{CheckScheduleFault}
 use Rattle.ioa_pipeline.specs.Judging.{SaysJudged}
 use Rattle.ioa_pipeline.specs.ScheduleChecks.{IsExactForCheck, IsFaultOfCheck}
+use Rattle.ioa_pipeline.specs.declared.tracing.TraceFault.{TraceFault}
+use Rattle.ioa_pipeline.specs.Tracing.{IsRefusalOfTrace, ShowsRun}
 use Rattle.ioa_pipeline.specs.declared.whole_run.RunFault.{RunFault}
 use Rattle.ioa_pipeline.specs.WholeRun.{IsExactFor, IsFaultOfWorkers, IsRefusalOf, WritesReport}
 use Rattle.ioa_command.specs.declared.choice.InputName.{InputName}
@@ -105,6 +107,19 @@ traces_unread t given out (Explain f) h kept = absurd (is_reading t.input given 
 traces_unread t given out (Trace f) h kept = absurd (is_reading t.input given (Trace f) h)
 traces_unread t given out (Check f) h kept = absurd (is_reading t.input given (Check f) h)
 traces_unread t given out (Print f) h kept = absurd (is_reading t.input given (Print f) h)
+
+-- and so if the run of its text was shown
+pub traces_run : (t : TraceChoice) (given : Option (List ℕ)) (text : List ℕ) (out : Output) (found : Findings)
+    → IsTextOf (given_by t.input given) text
+    → ShowsRun text t.options t.format t.fail_on.invariant out.old out.new out.failed (Ok found)
+    → IsTraced t given out (Ok found)
+traces_run t given text out found is shown = (text, is, shown, tt)
+
+pub traces_fault : (t : TraceChoice) (given : Option (List ℕ)) (text : List ℕ) (out : Output) (f : TraceFault)
+    → IsTextOf (given_by t.input given) text
+    → ShowsRun text t.options t.format t.fail_on.invariant out.old out.new out.failed (Err f) → IsRefusalOfTrace f text
+    → IsTraced t given out (Err (Trace f))
+traces_fault t given text out f is shown refused = (text, is, shown, refused)
 
 pub explains_unread : (input : InputName) (given : Option (List ℕ)) (out : Output) (f : TextFault)
     → IsFaultOfInput input given f → IsKept out → IsExplained input given out (Err f)
@@ -249,5 +264,7 @@ pub ruleset judged_rules = (judged_done, judged_fault)
 pub ruleset apart_rules = (checked_unread, checked_given)
 
 pub ruleset run_rules = (executes_unread, executes_run, executes_fault)
+
+pub ruleset trace_rules = (traces_unread, traces_run, traces_fault)
 
 pub ruleset explain_rules = (explains_unread, explains_text, explains_fault)

@@ -1,6 +1,7 @@
 -- What was read and replayed, and why nothing was.
-use Rattle.std.proofs.Common.{◌≡◌, List, ℕ, Option, Result, Ok, Err, inl, inr}
+use Rattle.std.proofs.Common.{◌≡◌, List, ℕ, Bool, Option, Result, Ok, Err, inl, inr}
 use Rattle.ioa_streams.specs.ScheduleParts.{schedule_part}
+use Rattle.ioa_monitor.specs.declared.findings.Findings.{Findings}
 use Rattle.ioa_pipeline.specs.declared.tracing.Format.{Format}
 use Rattle.ioa_pipeline.specs.declared.tracing.TraceFault.TheVariants as trace
 use Rattle.ioa_pipeline.specs.declared.replaying.ReplayFault.{ReplayFault}
@@ -16,35 +17,39 @@ use Rattle.ioa_command.specs.Inputs.{given_by, schedule_limit}
 use Rattle.ioa_command.proofs.Readings.{fault_behind, is_reading, is_reading_long, text_behind}
 
 -- nothing was replayed if the input of the schedule gives no text
-pub replay_unread : (format : Format) (text : List ℕ) (s : InputName) (given : Option (List ℕ)) (out : Output)
-    (f : TextFault) → IsFaultOfLong s given f → IsKept out → IsReplayedBy format text s given out (Err f)
-replay_unread format text s given out (Input f) h kept = (h, kept)
-replay_unread format text s given out (Unread name) h kept = (h, kept)
-replay_unread format text s given out (Run f) h kept = absurd (is_reading_long s given (Run f) h)
-replay_unread format text s given out (Explain f) h kept = absurd (is_reading_long s given (Explain f) h)
-replay_unread format text s given out (Trace f) h kept = absurd (is_reading_long s given (Trace f) h)
-replay_unread format text s given out (Check f) h kept = absurd (is_reading_long s given (Check f) h)
-replay_unread format text s given out (Print f) h kept = absurd (is_reading_long s given (Print f) h)
+pub replay_unread : (format : Format) (judged : Bool) (text : List ℕ) (s : InputName) (given : Option (List ℕ))
+    (out : Output) (f : TextFault) → IsFaultOfLong s given f → IsKept out
+    → IsReplayedBy format judged text s given out (Err f)
+replay_unread format judged text s given out (Input f) h kept = (h, kept)
+replay_unread format judged text s given out (Unread name) h kept = (h, kept)
+replay_unread format judged text s given out (Run f) h kept = absurd (is_reading_long s given (Run f) h)
+replay_unread format judged text s given out (Explain f) h kept = absurd (is_reading_long s given (Explain f) h)
+replay_unread format judged text s given out (Trace f) h kept = absurd (is_reading_long s given (Trace f) h)
+replay_unread format judged text s given out (Check f) h kept = absurd (is_reading_long s given (Check f) h)
+replay_unread format judged text s given out (Print f) h kept = absurd (is_reading_long s given (Print f) h)
 
 -- the lines of an input that was read were replayed
-pub replay_done : (format : Format) (text lines : List ℕ) (s : InputName) (given : Option (List ℕ)) (out : Output)
-    (x : Unit {0}) → IsTextWithin (schedule_limit s) (given_by s given) lines
-    → ReplaysIn format text (schedule_part lines) out (Ok x) → IsReplayedBy format text s given out (Ok x)
-replay_done format text lines s given out x t h = (lines, t, h)
+pub replay_done : (format : Format) (judged : Bool) (text lines : List ℕ) (s : InputName) (given : Option (List ℕ))
+    (out : Output) (found : Findings) → IsTextWithin (schedule_limit s) (given_by s given) lines
+    → ReplaysIn format judged text (schedule_part lines) out (Ok found)
+    → IsReplayedBy format judged text s given out (Ok found)
+replay_done format judged text lines s given out found t h = (lines, t, h)
 
 -- and so if the replay has a fault
-replay_fault : (format : Format) (text lines : List ℕ) (s : InputName) (given : Option (List ℕ)) (out : Output)
-    (f : ReplayFault) → IsTextWithin (schedule_limit s) (given_by s given) lines
-    → ReplaysIn format text (schedule_part lines) out (Err f)
-    → IsReplayedBy format text s given out (Err (fault_of_replay f))
-replay_fault format text lines s given out (replay.Check f) t h = (lines, t, h)
-replay_fault format text lines s given out replay.Differs t h = (lines, t, h)
+replay_fault : (format : Format) (judged : Bool) (text lines : List ℕ) (s : InputName) (given : Option (List ℕ))
+    (out : Output) (f : ReplayFault) → IsTextWithin (schedule_limit s) (given_by s given) lines
+    → ReplaysIn format judged text (schedule_part lines) out (Err f)
+    → IsReplayedBy format judged text s given out (Err (fault_of_replay f))
+replay_fault format judged text lines s given out (replay.Check f) t h = (lines, t, h)
+replay_fault format judged text lines s given out replay.Differs t h = (lines, t, h)
 
-pub replay_told : (format : Format) (text lines : List ℕ) (s : InputName) (given : Option (List ℕ)) (out : Output)
-    (f : ReplayFault) (told : TextFault) → told ≡ fault_of_replay f
+pub replay_told : (format : Format) (judged : Bool) (text lines : List ℕ) (s : InputName) (given : Option (List ℕ))
+    (out : Output) (f : ReplayFault) (told : TextFault) → told ≡ fault_of_replay f
     → IsTextWithin (schedule_limit s) (given_by s given) lines
-    → ReplaysIn format text (schedule_part lines) out (Err f) → IsReplayedBy format text s given out (Err told)
-replay_told format text lines s given out f told is t h = rw is (replay_fault format text lines s given out f t h)
+    → ReplaysIn format judged text (schedule_part lines) out (Err f)
+    → IsReplayedBy format judged text s given out (Err told)
+replay_told format judged text lines s given out f told is t h =
+    rw is (replay_fault format judged text lines s given out f t h)
 
 -- nothing was replayed if the input of the text gives none
 pub replayed_unread : (r : ReplayChoice) (given : Option (List ℕ)) (out : Output) (f : TextFault)
@@ -59,9 +64,9 @@ replayed_unread r given out (Print f) h kept = absurd (is_reading r.input given 
 
 -- a schedule that is read behind a text
 pub replayed_apart : (r : ReplayChoice) (given mid : Option (List ℕ)) (text : List ℕ) (out : Output)
-    (outcome : Result (Unit {0}) TextFault) → KeepsStandard r.input given mid → IsTextOf (given_by r.input given) text
-    → IsReplayedBy r.format text r.schedule mid out outcome → IsReplayed r given out outcome
-replayed_apart r given mid text out (Ok x) kept t h =
+    (outcome : Result Findings TextFault) → KeepsStandard r.input given mid → IsTextOf (given_by r.input given) text
+    → IsReplayedBy r.format r.fail_on.invariant text r.schedule mid out outcome → IsReplayed r given out outcome
+replayed_apart r given mid text out (Ok found) kept t h =
     (text, t, (h.0, text_behind (schedule_limit r.schedule) r.input r.schedule given mid h.0 kept h.1, h.2))
 replayed_apart r given mid text out (Err (Input f)) kept t h =
     (inr (fault_behind r.input r.schedule given mid (Input f) kept h.0), h.1)

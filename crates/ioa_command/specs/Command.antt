@@ -204,16 +204,16 @@ IsExplained input given out (Err (Trace f)) = ⊥
 IsExplained input given out (Err (Check f)) = ⊥
 IsExplained input given out (Err (Print f)) = ⊥
 
--- the run of the text of the input was shown
-abbrev pub TracesText : TraceChoice → Option (List ℕ) → Output → Result (Unit {0}) TraceFault → Type 0
+-- the run of the text of the input was shown; its verdicts are asked for if the status is to tell of them
+abbrev pub TracesText : TraceChoice → Option (List ℕ) → Output → Result Findings TraceFault → Type 0
 TracesText t given out result =
     (text : List ℕ) × IsTextOf (given_by t.input given) text
-    × ShowsRun text t.options t.format out.old out.new out.failed result
+    × ShowsRun text t.options t.format t.fail_on.invariant out.old out.new out.failed result
     × IfErr result (λ f. IsRefusalOfTrace f text)
 
 -- what `trace` read and showed, if it ends so: nothing if the input gives no text
-abbrev pub IsTraced : TraceChoice → Option (List ℕ) → Output → Result (Unit {0}) TextFault → Type 0
-IsTraced t given out (Ok x) = TracesText t given out (Ok x)
+abbrev pub IsTraced : TraceChoice → Option (List ℕ) → Output → Result Findings TextFault → Type 0
+IsTraced t given out (Ok found) = TracesText t given out (Ok found)
 IsTraced t given out (Err (Input f)) = IsFaultOfInput t.input given (Input f) × IsKept out
 IsTraced t given out (Err (Unread name)) = IsFaultOfInput t.input given (Unread name) × IsKept out
 IsTraced t given out (Err (Run f)) = ⊥
@@ -222,23 +222,25 @@ IsTraced t given out (Err (Trace f)) = TracesText t given out (Err f)
 IsTraced t given out (Err (Check f)) = ⊥
 IsTraced t given out (Err (Print f)) = ⊥
 
--- lines were replayed in a text's system, and the replay was shown; a fault is one of them, and no fault of the text
--- that is always found is passed over
-abbrev pub ReplaysIn : Format → (text lines : List ℕ) → Output → Result (Unit {0}) ReplayFault → Type 0
-ReplaysIn format text lines out result =
-    ShowsReplay text lines format out.old out.new out.failed result
+-- lines were replayed in a text's system, and the replay was shown, with the verdicts along it or without; a fault is
+-- one of them, and no fault of the text that is always found is passed over
+abbrev pub ReplaysIn : Format → Bool → (text lines : List ℕ) → Output → Result Findings ReplayFault → Type 0
+ReplaysIn format judged text lines out result =
+    ShowsReplay text lines format judged out.old out.new out.failed result
     × IfErr result (λ f. IsFaultOfReplay f text lines) × IsExactForReplay result text
 
 -- the schedule in an input of at most so many bytes was replayed
-abbrev pub ReplaysGiven : Format → List ℕ → ℕ → Option (List ℕ) → Output → Result (Unit {0}) ReplayFault → Type 0
-ReplaysGiven format text limit other out result =
-    (lines : List ℕ) × IsTextWithin limit other lines × ReplaysIn format text (schedule_part lines) out result
+abbrev pub ReplaysGiven : Format → Bool → List ℕ → ℕ → Option (List ℕ) → Output → Result Findings ReplayFault → Type 0
+ReplaysGiven format judged text limit other out result =
+    (lines : List ℕ) × IsTextWithin limit other lines × ReplaysIn format judged text (schedule_part lines) out result
 
--- the schedule in one input was replayed in the system of the text in another
-abbrev pub ReplaysSchedule : ReplayChoice → Option (List ℕ) → Output → Result (Unit {0}) ReplayFault → Type 0
+-- the schedule in one input was replayed in the system of the text in another; the verdicts along it are asked for if
+-- the status is to tell of them
+abbrev pub ReplaysSchedule : ReplayChoice → Option (List ℕ) → Output → Result Findings ReplayFault → Type 0
 ReplaysSchedule r given out result =
     (text : List ℕ) × IsTextOf (given_by r.input given) text
-    × ReplaysGiven r.format text (schedule_limit r.schedule) (given_behind r.input r.schedule given) out result
+    × ReplaysGiven r.format r.fail_on.invariant text (schedule_limit r.schedule)
+    (given_behind r.input r.schedule given) out result
 
 -- why an input of a replay gives no text
 abbrev pub IsFaultOfReplayInputs : ReplayChoice → Option (List ℕ) → TextFault → Type 0
@@ -246,24 +248,25 @@ IsFaultOfReplayInputs r given f =
     IsFaultOfInput r.input given f ⊎ IsFaultOfLong r.schedule (behind r.input given) f
 
 -- a schedule was replayed in a text's system, if that ends so: nothing went out if its input gives no text
-abbrev pub IsReplayedBy : Format → List ℕ → InputName → Option (List ℕ) → Output → Result (Unit {0}) TextFault → Type 0
-IsReplayedBy format text schedule given out (Ok x) =
-    ReplaysGiven format text (schedule_limit schedule) (given_by schedule given) out (Ok x)
-IsReplayedBy format text schedule given out (Err (Input f)) = IsFaultOfLong schedule given (Input f) × IsKept out
-IsReplayedBy format text schedule given out (Err (Unread name)) =
+abbrev pub IsReplayedBy : Format → Bool → List ℕ → InputName → Option (List ℕ) → Output → Result Findings TextFault
+    → Type 0
+IsReplayedBy format judged text schedule given out (Ok found) =
+    ReplaysGiven format judged text (schedule_limit schedule) (given_by schedule given) out (Ok found)
+IsReplayedBy format judged text schedule given out (Err (Input f)) = IsFaultOfLong schedule given (Input f) × IsKept out
+IsReplayedBy format judged text schedule given out (Err (Unread name)) =
     IsFaultOfLong schedule given (Unread name) × IsKept out
-IsReplayedBy format text schedule given out (Err (Run f)) = ⊥
-IsReplayedBy format text schedule given out (Err (Explain f)) = ⊥
-IsReplayedBy format text schedule given out (Err (Trace (trace.Run f))) = ⊥
-IsReplayedBy format text schedule given out (Err (Trace trace.Differs)) =
-    ReplaysGiven format text (schedule_limit schedule) (given_by schedule given) out (Err replay.Differs)
-IsReplayedBy format text schedule given out (Err (Check f)) =
-    ReplaysGiven format text (schedule_limit schedule) (given_by schedule given) out (Err (replay.Check f))
-IsReplayedBy format text schedule given out (Err (Print f)) = ⊥
+IsReplayedBy format judged text schedule given out (Err (Run f)) = ⊥
+IsReplayedBy format judged text schedule given out (Err (Explain f)) = ⊥
+IsReplayedBy format judged text schedule given out (Err (Trace (trace.Run f))) = ⊥
+IsReplayedBy format judged text schedule given out (Err (Trace trace.Differs)) =
+    ReplaysGiven format judged text (schedule_limit schedule) (given_by schedule given) out (Err replay.Differs)
+IsReplayedBy format judged text schedule given out (Err (Check f)) =
+    ReplaysGiven format judged text (schedule_limit schedule) (given_by schedule given) out (Err (replay.Check f))
+IsReplayedBy format judged text schedule given out (Err (Print f)) = ⊥
 
 -- what `trace` read and showed of a schedule, if it ends so: nothing if an input gives no text
-abbrev pub IsReplayed : ReplayChoice → Option (List ℕ) → Output → Result (Unit {0}) TextFault → Type 0
-IsReplayed r given out (Ok x) = ReplaysSchedule r given out (Ok x)
+abbrev pub IsReplayed : ReplayChoice → Option (List ℕ) → Output → Result Findings TextFault → Type 0
+IsReplayed r given out (Ok found) = ReplaysSchedule r given out (Ok found)
 IsReplayed r given out (Err (Input f)) = IsFaultOfReplayInputs r given (Input f) × IsKept out
 IsReplayed r given out (Err (Unread name)) = IsFaultOfReplayInputs r given (Unread name) × IsKept out
 IsReplayed r given out (Err (Run f)) = ⊥
@@ -273,7 +276,7 @@ IsReplayed r given out (Err (Trace trace.Differs)) = ReplaysSchedule r given out
 IsReplayed r given out (Err (Check f)) = ReplaysSchedule r given out (Err (replay.Check f))
 IsReplayed r given out (Err (Print f)) = ⊥
 
--- the status of a report that was written, or of an execution: 4 if there is a finding at which the status is to tell
+-- the status of what was done and has these findings: 4 if there is one at which the status is to tell
 abbrev pub found_status : (fail_on found : Findings) → ℕ
 found_status fail_on found = if meet fail_on found then 4 else 0
 
@@ -323,9 +326,11 @@ EndsAs (subcommand.Explain input) given out err status =
     (outcome : Result Finding TextFault) × IsExplained input given out outcome
     × Tells explained_status err status outcome
 EndsAs (subcommand.Trace t) given out err status =
-    (outcome : Result (Unit {0}) TextFault) × IsTraced t given out outcome × Tells no_finding err status outcome
+    (outcome : Result Findings TextFault) × IsTraced t given out outcome
+    × Tells (found_status t.fail_on) err status outcome
 EndsAs (subcommand.Replay r) given out err status =
-    (outcome : Result (Unit {0}) TextFault) × IsReplayed r given out outcome × Tells no_finding err status outcome
+    (outcome : Result Findings TextFault) × IsReplayed r given out outcome
+    × Tells (found_status r.fail_on) err status outcome
 EndsAs (subcommand.Check c) given out err status =
     (outcome : Result Findings TextFault) × Follows c given out outcome
     × Tells (found_status c.fail_on) err status outcome
@@ -358,20 +363,24 @@ Judges words given out status =
     (c : CheckChoice) × Chooses words (subcommand.Check c)
     × ((found : Findings) × ChecksSchedule c given out (Ok found) × (status ≡ found_status c.fail_on found))
 
--- what status 4 says: a report went out, or a schedule is an execution, and there is a finding at which the status is
--- to tell
+-- a run was shown, and the status tells what its verdicts come to
+abbrev pub Traces : List Text → Option (List ℕ) → Output → ℕ → Type 0
+Traces words given out status =
+    (t : TraceChoice) × Chooses words (subcommand.Trace t)
+    × ((found : Findings) × TracesText t given out (Ok found) × (status ≡ found_status t.fail_on found))
+
+-- the replay of a schedule was shown, and the status tells what its verdicts come to
+abbrev pub Replays : List Text → Option (List ℕ) → Output → ℕ → Type 0
+Replays words given out status =
+    (r : ReplayChoice) × Chooses words (subcommand.Replay r)
+    × ((found : Findings) × ReplaysSchedule r given out (Ok found) × (status ≡ found_status r.fail_on found))
+
+-- what status 4 says: a report went out, a run or the replay of a schedule was shown, or a schedule is an execution,
+-- and there is a finding at which the status is to tell
 abbrev pub IsFound : List Text → Option (List ℕ) → Output → Type 0
-IsFound words given out = Reports words given out 4 ⊎ Judges words given out 4
-
--- a run was shown
-abbrev pub Traces : List Text → Option (List ℕ) → Output → Type 0
-Traces words given out =
-    (t : TraceChoice) × Chooses words (subcommand.Trace t) × TracesText t given out (Ok tt)
-
--- the replay of a schedule was shown
-abbrev pub Replays : List Text → Option (List ℕ) → Output → Type 0
-Replays words given out =
-    (r : ReplayChoice) × Chooses words (subcommand.Replay r) × ReplaysSchedule r given out (Ok tt)
+IsFound words given out =
+    Reports words given out 4
+    ⊎ (Traces words given out 4 ⊎ (Replays words given out 4 ⊎ Judges words given out 4))
 
 -- a schedule was refused, and what is before the refused line or the refused step was shown
 abbrev pub ReplaysRefused : List Text → Option (List ℕ) → Output → Type 0
@@ -385,15 +394,15 @@ ExplainsAs f words given out =
     (input : InputName) × Chooses words (subcommand.Explain input) × ExplainsText input given out (Ok f)
 
 -- what status 0 says: the report of the text that was read went out, and it has no finding at which the status is to
--- tell; or nothing is wrong with the text; or its run was shown, or the replay of the schedule that was read; or that
--- schedule is an execution of the text's system, and has no such finding; or the text went out laid out anew; or a text
--- for which the words ask
+-- tell; or nothing is wrong with the text; or its run was shown, or the replay of the schedule that was read, and has
+-- no such finding; or that schedule is an execution of the text's system, and has none; or the text went out laid out
+-- anew; or a text for which the words ask
 abbrev pub IsDone : List Text → Option (List ℕ) → Output → Type 0
 IsDone words given out =
     Reports words given out 0
     ⊎ (ExplainsAs NothingWrong words given out
-    ⊎ (Traces words given out
-    ⊎ (Replays words given out
+    ⊎ (Traces words given out 0
+    ⊎ (Replays words given out 0
     ⊎ (Judges words given out 0
     ⊎ (((input : InputName) × Chooses words (subcommand.Print input) × PrintsText (given_by input given) out (Ok tt))
     ⊎ (AsksForText words × ShowsText out))))))

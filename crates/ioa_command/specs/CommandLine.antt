@@ -74,16 +74,18 @@ explain_app = with_rule (new_app (codes "explain")) (word_rule (codes "file"))
 abbrev pub format_rule : Rule
 format_rule = record (new_rule (codes "format")) { long = Some (codes "format"); value_names = 1 }
 
--- `trace FILE SCHEDULE --steps N --attempts N --format NAME`
+-- `trace FILE SCHEDULE --steps N --attempts N --format NAME --fail-on NAMES`
 abbrev pub trace_app : App
 trace_app =
     with_rule
     (with_rule
     (with_rule
+    (with_rule
     (with_rule (with_rule (new_app (codes "trace")) (word_rule (codes "file"))) (word_rule (codes "schedule")))
     steps_rule)
     attempts_rule)
-    format_rule
+    format_rule)
+    fail_on_rule
 
 -- `--verdicts`
 abbrev pub verdicts_rule : Rule
@@ -153,6 +155,15 @@ abbrev pub findings_given : Option Text → Option Findings
 findings_given None = Some no_findings
 findings_given (Some names) = findings_named names
 
+-- findings, if no ending is among them
+abbrev pub only_verdicts : Option Findings → Option Findings
+only_verdicts None = None
+only_verdicts (Some f) = if f.fault || f.spent then None else Some f
+
+-- the findings that a word names, if no ending is among them
+abbrev pub verdict_findings_given : Option Text → Option Findings
+verdict_findings_given word = only_verdicts (findings_given word)
+
 -- the format of a name; nothing if there is none
 abbrev pub format_named : Text → Option Format
 format_named name =
@@ -184,6 +195,7 @@ pub record IsTraceOf (rows : List Row) (t : TraceChoice) : Type 0 where
   pub schedule : schedule_given rows ≡ None
   pub options : AreLimitsOf rows t.options
   pub format : format_given (first_of (codes "format") rows) ≡ Some t.format
+  pub fail_on : verdict_findings_given (first_of (codes "fail-on") rows) ≡ Some t.fail_on
 
 -- what the matches of `run` choose
 pub record IsRunOf (rows : List Row) (r : RunChoice) : Type 0 where
@@ -206,6 +218,7 @@ pub record IsReplayOf (rows : List Row) (r : ReplayChoice) : Type 0 where
   pub limits : PlainOptions
   pub within : AreLimitsOf rows limits
   pub format : format_given (first_of (codes "format") rows) ≡ Some r.format
+  pub fail_on : verdict_findings_given (first_of (codes "fail-on") rows) ≡ Some r.fail_on
   pub apart : ReadsApart r.input (Some r.schedule)
 
 -- what the matches of `trace` choose: a run or a replay
@@ -216,15 +229,6 @@ IsOfTrace rows (Trace t) = IsTraceOf rows t
 IsOfTrace rows (Replay r) = IsReplayOf rows r
 IsOfTrace rows (Check c) = ⊥
 IsOfTrace rows (Print input) = ⊥
-
--- findings, if no ending is among them
-abbrev pub only_verdicts : Option Findings → Option Findings
-only_verdicts None = None
-only_verdicts (Some f) = if f.fault || f.spent then None else Some f
-
--- the findings that a word names, if no ending is among them
-abbrev pub verdict_findings_given : Option Text → Option Findings
-verdict_findings_given word = only_verdicts (findings_given word)
 
 -- a flag is given: clap has the text `true` for it, and else `false`
 abbrev pub flag_given : Option Text → Bool

@@ -35,6 +35,8 @@ pub struct TraceChoice {
     pub options: Options,
     /// How the run is shown.
     pub format: Format,
+    /// The findings at each of which the status is to tell. No ending is among them.
+    pub fail_on: Findings,
 }
 
 /// What `trace` is asked to do with a schedule.
@@ -46,6 +48,8 @@ pub struct ReplayChoice {
     pub schedule: InputName,
     /// How the replay is shown.
     pub format: Format,
+    /// The findings at each of which the status is to tell. No ending is among them, since a schedule has none.
+    pub fail_on: Findings,
 }
 
 /// What `check` is asked to do.
@@ -102,7 +106,7 @@ pub(crate) enum WordsFault {
     Number,
     /// `--fail-on` has a name that is none of its three.
     FailOn,
-    /// `--fail-on` of `check` has another name than `invariant`.
+    /// `--fail-on` of `check` or `trace` has another name than `invariant`.
     FailOnVerdicts,
     /// `--format` has a name that is none of a format.
     Format,
@@ -119,7 +123,7 @@ impl WordsFault {
                 "--fail-on takes fault, spent and invariant: one of them, or several with commas between"
             }
             WordsFault::FailOnVerdicts => {
-                "--fail-on of `check` takes invariant, since a schedule has no endings"
+                "--fail-on of `check` and `trace` takes invariant, and no name of an ending"
             }
             WordsFault::Format => "--format takes text, json, itf, svg or mermaid",
             WordsFault::Twice => "only one of FILE and SCHEDULE can be standard input",

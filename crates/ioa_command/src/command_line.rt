@@ -42,7 +42,7 @@ const DONE: u8 = 0;
 /// The status if the command line was refused.
 pub const BAD_WORDS: u8 = 2;
 
-/// The status if a report has what the words ask to be told.
+/// The status if there is what the words ask to be told.
 const FOUND: u8 = 4;
 
 /// The program (profile): `words` are those of the command line, its own name first, and choose what it does. `run`
@@ -53,10 +53,11 @@ const FOUND: u8 = 4;
 /// text and writes it laid out anew. A text is read from the file that is named, else from `reader`. Returns the
 /// status: 0 if all was done, or if the help or the version for which the words ask was shown; 1 if the text or the
 /// schedule was refused; 2 if the words were refused; 3 if memory ran out, what several workers left could not be put
-/// together, or reading or writing failed; and 4 if the report was written or the schedule is an execution, and has
-/// what `--fail-on` names. If it is 1, 2 or 3, `err` says why, but where `explain` says it on `out`; a fault of `err`
-/// is ignored. If there is no memory for what it has to say, the status is 3 and a line says so. The gate is called
-/// between the steps of `run`'s workers, so who watches the program sees how far it has come.
+/// together, or reading or writing failed; and 4 if the report was written, the schedule is an execution, or the run or
+/// the replay was shown whole, and has what `--fail-on` names. If it is 1, 2 or 3, `err` says why, but where `explain`
+/// says it on `out`; a fault of `err` is ignored. If there is no memory for what it has to say, the status is 3 and a
+/// line says so. The gate is called between the steps of `run`'s workers, so who watches the program sees how far it
+/// has come.
 pub fn command<'a, R: Files + Threads + Wait + Sync, G: Gate + Sync, I: Read, O: Out, E: Out>(
     rt: &R,
     alloc: Global,
@@ -198,7 +199,7 @@ fn explained_status(finding: Finding) -> u8
     }
 }
 
-/// Shows the run of a text, and tells of a fault.
+/// Shows the run of a text, and tells of a fault or of what was found.
 fn show_run<R: Files + Threads + Wait + Sync, I: Read, O: Out, E: Out>(
     rt: &R,
     alloc: Global,
@@ -209,15 +210,19 @@ fn show_run<R: Files + Threads + Wait + Sync, I: Read, O: Out, E: Out>(
 ) -> u8
     requires out { O.failed out.old ≡ false }
     requires err { E.failed err.old ≡ false }
-    ensures { (outcome : Result (Unit {0}) TextFault) × IsTraced choice.now (I.remaining reader.old)
+    ensures { (outcome : Result Findings TextFault) × IsTraced choice.now (I.remaining reader.old)
         (output (O.bytes out.old) (O.bytes out.new) (O.failed out.new)) outcome
-        × Tells no_finding (output (E.bytes err.old) (E.bytes err.new) (E.failed err.new)) result outcome }
+        × Tells (found_status choice.now.fail_on) (output (E.bytes err.old) (E.bytes err.new) (E.failed err.new))
+        result outcome }
 {
     let outcome = trace_from(rt, alloc, choice, reader, out);
-    tell(alloc, &outcome, err)
+    match &outcome {
+        Ok(found) => found_status(&choice.fail_on, found),
+        Err(fault) => tell_fault(alloc, fault, err),
+    }
 }
 
-/// Shows the replay of a schedule, and tells of a fault.
+/// Shows the replay of a schedule, and tells of a fault or of what was found.
 fn show_replay<R: Files, I: Read, O: Out, E: Out>(
     rt: &R,
     alloc: Global,
@@ -228,12 +233,16 @@ fn show_replay<R: Files, I: Read, O: Out, E: Out>(
 ) -> u8
     requires out { O.failed out.old ≡ false }
     requires err { E.failed err.old ≡ false }
-    ensures { (outcome : Result (Unit {0}) TextFault) × IsReplayed choice.now (I.remaining reader.old)
+    ensures { (outcome : Result Findings TextFault) × IsReplayed choice.now (I.remaining reader.old)
         (output (O.bytes out.old) (O.bytes out.new) (O.failed out.new)) outcome
-        × Tells no_finding (output (E.bytes err.old) (E.bytes err.new) (E.failed err.new)) result outcome }
+        × Tells (found_status choice.now.fail_on) (output (E.bytes err.old) (E.bytes err.new) (E.failed err.new))
+        result outcome }
 {
     let outcome = replay_from(rt, alloc, choice, reader, out);
-    tell(alloc, &outcome, err)
+    match &outcome {
+        Ok(found) => found_status(&choice.fail_on, found),
+        Err(fault) => tell_fault(alloc, fault, err),
+    }
 }
 
 /// Checks the lines of a schedule against a text, and tells of a fault or of what was found.
@@ -340,28 +349,33 @@ fn explain_from<R: Files, I: Read, O: Out>(
 }
 
 /// Reads a text and shows its run.
-#[tactic(auto, using(crate::proofs::Readings::traces_unread))]
+#[tactic(auto, using(crate::proofs::Readings::trace_rules))]
 fn trace_from<R: Files + Threads + Wait + Sync, I: Read, O: Out>(
     rt: &R,
     alloc: Global,
     choice: &TraceChoice,
     reader: &mut I,
     out: &mut O,
-) -> Result<(), TextFault>
+) -> Result<Findings, TextFault>
     requires { O.failed out.old ≡ false }
     ensures { IsTraced choice.now (I.remaining reader.old)
         (output (O.bytes out.old) (O.bytes out.new) (O.failed out.new)) result }
 {
     let text = text_of(rt, alloc, &choice.input, reader)?;
-    trace_text(
+    let format = choice.format;
+    let is_judged = choice.fail_on.invariant;
+    match trace_text(
         rt,
         alloc,
         text.as_str(),
         &choice.options,
-        choice.format,
+        format,
+        is_judged,
         out,
-    )
-    .map_err(TextFault::Trace)
+    ) {
+        Ok(found) => Ok(found),
+        Err(fault) => Err(TextFault::Trace(fault)),
+    }
 }
 
 /// Reads a text and a schedule, and says whether the schedule is an execution of the text's system.

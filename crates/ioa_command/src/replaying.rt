@@ -7,7 +7,7 @@ ghost use Rattle.ioa_command.specs.Command.{IsReplayed, IsReplayedBy, ReplaysIn,
 use crate::choice::{InputName, ReplayChoice};
 use crate::faults::{TextFault, fault_of_replay};
 use crate::inputs::{schedule_of, text_of};
-use ioa_pipeline::{Format, ReplayFault, trace_schedule};
+use ioa_pipeline::{Findings, Format, ReplayFault, trace_schedule};
 use ioa_streams::{Out, schedule_part};
 use std::alloc::Global;
 use std::io::Read;
@@ -21,19 +21,21 @@ pub(crate) fn replay_from<R: Files, I: Read, O: Out>(
     choice: &ReplayChoice,
     reader: &mut I,
     out: &mut O,
-) -> Result<(), TextFault>
+) -> Result<Findings, TextFault>
     requires { O.failed out.old ≡ false }
     ensures { IsReplayed choice.now (I.remaining reader.old)
         (output (O.bytes out.old) (O.bytes out.new) (O.failed out.new)) result }
 {
     let text = text_of(rt, alloc, &choice.input, reader)?;
     let format = choice.format;
+    let is_judged = choice.fail_on.invariant;
     replay_apart(
         rt,
         alloc,
         text.as_str(),
         &choice.schedule,
         format,
+        is_judged,
         reader,
         out,
     )
@@ -47,16 +49,17 @@ fn replay_apart<R: Files, I: Read, O: Out>(
     text: &str,
     schedule: &InputName,
     format: Format,
+    is_judged: bool,
     reader: &mut I,
     out: &mut O,
-) -> Result<(), TextFault>
+) -> Result<Findings, TextFault>
     requires { O.failed out.old ≡ false }
-    ensures { IsReplayedBy format text.now schedule.now (I.remaining reader.old)
+    ensures { IsReplayedBy format is_judged text.now schedule.now (I.remaining reader.old)
         (output (O.bytes out.old) (O.bytes out.new) (O.failed out.new)) result }
 {
     let lines = schedule_of(rt, alloc, schedule, reader)?;
-    match replay_part(alloc, text, lines.as_str(), format, out) {
-        Ok(()) => Ok(()),
+    match replay_part(alloc, text, lines.as_str(), format, is_judged, out) {
+        Ok(found) => Ok(found),
         Err(fault) => Err(fault_of_replay(fault)),
     }
 }
@@ -67,14 +70,15 @@ fn replay_part<O: Out>(
     text: &str,
     input: &str,
     format: Format,
+    is_judged: bool,
     out: &mut O,
-) -> Result<(), ReplayFault>
+) -> Result<Findings, ReplayFault>
     requires { O.failed out.old ≡ false }
-    ensures { ReplaysIn format text.now (schedule_part input.now)
+    ensures { ReplaysIn format is_judged text.now (schedule_part input.now)
         (output (O.bytes out.old) (O.bytes out.new) (O.failed out.new)) result }
 {
     let lines = schedule_part(input);
-    replay_lines(alloc, text, lines, format, out)
+    replay_lines(alloc, text, lines, format, is_judged, out)
 }
 
 /// Shows the replay of lines in a text's system.
@@ -83,11 +87,12 @@ fn replay_lines<O: Out>(
     text: &str,
     lines: &str,
     format: Format,
+    is_judged: bool,
     out: &mut O,
-) -> Result<(), ReplayFault>
+) -> Result<Findings, ReplayFault>
     requires { O.failed out.old ≡ false }
-    ensures { ReplaysIn format text.now lines.now
+    ensures { ReplaysIn format is_judged text.now lines.now
         (output (O.bytes out.old) (O.bytes out.new) (O.failed out.new)) result }
 {
-    trace_schedule(alloc, text, lines, format, out)
+    trace_schedule(alloc, text, lines, format, is_judged, out)
 }

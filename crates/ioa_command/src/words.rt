@@ -46,7 +46,7 @@ Statuses:
      the place (`explain` says more, on standard output)
   2  these words were refused
   3  memory ran out, or finishing, reading or writing failed
-  4  the report was written, and has what `--fail-on` names
+  4  all was done, and there is what `--fail-on` names
 
 Examples:
   ioarun run examples/relay.ioa
@@ -218,7 +218,18 @@ fn trace<'a>(alloc: Global) -> Result<Command<'a>, AllocError>
         .after_help(TRACE_EXAMPLE)
         .arg(file_word(alloc))?
         .arg(schedule_word(alloc))?;
-    with_limits(alloc, command)?.arg(format_option(alloc))
+    with_format(alloc, with_limits(alloc, command)?)
+}
+
+/// A subcommand with `--format NAME` and `--fail-on NAMES`.
+fn with_format<'a>(alloc: Global, command: Command<'a>) -> Result<Command<'a>, AllocError>
+    requires { (out-Command command).has_globals ≡ false }
+    ensures { IfOk result (λ c. (app_of c ≡ with_rule (with_rule (app_of command.entry) format_rule) fail_on_rule)
+        × ((out-Command c).has_globals ≡ false)) }
+{
+    command
+        .arg(format_option(alloc))?
+        .arg(fail_on_verdicts_option(alloc))
 }
 
 /// The subcommand `check`.
@@ -239,10 +250,9 @@ fn with_verdicts<'a>(alloc: Global, command: Command<'a>) -> Result<Command<'a>,
     ensures { IfOk result (λ c. (app_of c ≡ with_rule (with_rule (app_of command.entry) verdicts_rule) fail_on_rule)
         × ((out-Command c).has_globals ≡ false)) }
 {
-    command.arg(verdicts_option(alloc))?.arg(fail_on_option(
-        alloc,
-        "Which verdicts make the status 4: invariant, one that does not hold",
-    ))
+    command
+        .arg(verdicts_option(alloc))?
+        .arg(fail_on_verdicts_option(alloc))
 }
 
 /// The subcommand `print`.
@@ -303,6 +313,17 @@ fn fail_on_option<'a>(alloc: Global, help: &'a str) -> Arg<'a>
         .long("fail-on")
         .value_name("NAMES")
         .help(help)
+}
+
+/// `--fail-on NAMES` where no name is that of an ending.
+fn fail_on_verdicts_option<'a>(alloc: Global) -> Arg<'a>
+    ensures rule { rule_of result ≡ fail_on_rule }
+    ensures global { result.global ≡ false }
+{
+    fail_on_option(
+        alloc,
+        "Which verdicts make the status 4: invariant, one that does not hold",
+    )
 }
 
 /// `--verdicts`.
@@ -449,11 +470,15 @@ fn trace_choice(alloc: Global, matches: &ArgMatches<'_>) -> Result<TraceChoice, 
     let Some(format) = format_given(matches) else {
         return Err(ChoiceFault::Nothing(WordsFault::Format));
     };
+    let Some(fail_on) = verdict_findings_given(matches) else {
+        return Err(ChoiceFault::Nothing(WordsFault::FailOnVerdicts));
+    };
     let input = input_given(alloc, matches)?;
     Ok(TraceChoice {
         input,
         options,
         format,
+        fail_on,
     })
 }
 
@@ -472,6 +497,9 @@ fn replay_choice(
     let Some(format) = format_given(matches) else {
         return Err(ChoiceFault::Nothing(WordsFault::Format));
     };
+    let Some(fail_on) = verdict_findings_given(matches) else {
+        return Err(ChoiceFault::Nothing(WordsFault::FailOnVerdicts));
+    };
     let input = input_given(alloc, matches)?;
     match (&input, &schedule) {
         (InputName::Standard, InputName::Standard) => {
@@ -481,6 +509,7 @@ fn replay_choice(
             input,
             schedule,
             format,
+            fail_on,
         }),
     }
 }

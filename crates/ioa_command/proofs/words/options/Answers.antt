@@ -1,5 +1,5 @@
 use Rattle.std.proofs.Common.{inl, inr}
-use Rattle.ioa_command.proofs.CommandLine.{kinds_are, nothing_is, takes_are}
+use Rattle.ioa_command.proofs.CommandLine.{chosen_is, kinds_are, nothing_is, takes_are}
 use Rattle.ioa_command.proofs.words.options.Goals as goal
 
 pub returns-in-Err-clause-refused : goal.returns-in-Err-clause-refused
@@ -16,3 +16,8 @@ returns-clause-refused c =
       takes_are _ _ told taken.kinds,
       nothing_is _ _ c.in-Ok.matches _ _ told taken.ok.2 why.ensures why.field-0-is,
     )
+
+pub returns-in-Ok-choice_of-clause-chosen : goal.returns-in-Ok-choice_of-clause-chosen
+returns-in-Ok-choice_of-clause-chosen c =
+    chosen_is _ _ c.in-Ok.matches c.in-Ok-choice_of.subcommand c.in_ok-command.ensures.0 c.in-Ok.ensures.ok.2
+    c.in-Ok-choice_of.ensures
