@@ -14,6 +14,7 @@ ghost use Rattle.ioa_lines.specs.Reading as spec;
 
 use crate::arguments::arguments;
 use crate::node::node_at_end;
+use crate::stops::{refusal_in_front_of, refusal_without_rule};
 use ioa_actions::{Action, RECEIVE, SEND};
 use ioa_cursor::{Tokens, Unread};
 use ioa_system::{Rule, System, program_numbered};
@@ -22,7 +23,7 @@ use ioa_tokens::{LocatedToken, Mark, Token};
 use std::alloc::{AllocError, Global};
 
 /// Whether a name is that of sends or that of receives.
-fn is_message_name(name: &Word) -> bool
+pub(crate) fn is_message_name(name: &Word) -> bool
     ensures { result ≡ is_message_name name.now }
 {
     name.as_str() == SEND || name.as_str() == RECEIVE
@@ -66,11 +67,13 @@ fn end_of_action(messages: bool, node: i64, tokens: &mut Tokens<'_>) -> Result<(
         return tokens.end();
     }
     tokens.expect(Mark::AtSign)?;
+    let left = tokens.len();
     let number = tokens.number()?;
     if number == node {
         tokens.end()
     } else {
-        Err(tokens.refusal())
+        tokens.end()?;
+        Err(Unread::Unexpected(left))
     }
 }
 
@@ -104,7 +107,7 @@ fn is_named(rule: &Rule, name: &[u8]) -> bool
 }
 
 /// The rule of a name, if there is one. Costs time in proportion to the number of rules.
-fn rule_named<'a>(rules: &'a [Rule], name: &[u8]) -> Option<&'a Rule>
+pub(crate) fn rule_named<'a>(rules: &'a [Rule], name: &[u8]) -> Option<&'a Rule>
     ensures { option_copied result ≡ rule_named name.now rules.now }
 {
     for rule in rules {
@@ -131,25 +134,22 @@ fn named_action<'t>(
     system: &System,
     name: &[u8],
     tokens: &'t [LocatedToken<'t>],
-) -> Result<Option<Action>, AllocError>
-    ensures { IfOk result (λ o. o ≡ spec.named_action system.now name.now (tokens_of tokens.now)) }
+) -> Result<Action, Unread>
+    ensures { Matches Unread.Memory (λ a. a) result
+        (spec.named_action system.now name.now (tokens_of tokens.now)) }
 {
     let Some(node) = node_at_end(name, tokens) else {
-        return Ok(None);
+        return Err(refusal_without_rule(alloc, system, name, tokens));
     };
     let Some(rule) = rule_at(system, node, name) else {
-        return Ok(None);
+        return Err(refusal_without_rule(alloc, system, name, tokens));
     };
     let mut rest = Tokens::new(tokens);
-    match rule_action(alloc, system.names(), node, rule, &mut rest) {
-        Ok(action) => Ok(Some(action)),
-        Err(Unread::Memory) => Err(AllocError),
-        Err(Unread::Unexpected(_) | Unread::TooDeep(_) | Unread::LeftOut(_, _)) => Ok(None),
-    }
+    rule_action(alloc, system.names(), node, rule, &mut rest)
 }
 
 /// The tokens behind the number that a line may begin with.
-fn behind_number<'t>(tokens: &'t [LocatedToken<'t>]) -> &'t [LocatedToken<'t>]
+pub(crate) fn behind_number<'t>(tokens: &'t [LocatedToken<'t>]) -> &'t [LocatedToken<'t>]
     ensures { tokens_of result.now ≡ spec.behind_number (tokens_of tokens.now) }
 {
     match tokens {
@@ -161,21 +161,23 @@ fn behind_number<'t>(tokens: &'t [LocatedToken<'t>]) -> &'t [LocatedToken<'t>]
     }
 }
 
-/// The action of a system that tokens spell, with a number in front or none. None if they spell none. Costs time in
-/// proportion to the tokens, to the programs and to the rules of one.
+/// The action of a system that tokens spell, with a number in front or none. Costs time in proportion to the tokens, to
+/// the programs and to the rules of one; and if they spell none, to the rules of all.
 #[tactic(auto, unfolding(crate::specs::Reading::line_action, crate::specs::bind, crate::specs::word))]
 pub(crate) fn action_of<'t>(
     alloc: Global,
     system: &System,
     tokens: &'t [LocatedToken<'t>],
-) -> Result<Option<Action>, AllocError>
-    ensures { IfOk result (λ o. o ≡ spec.line_action system.now (tokens_of tokens.now)) }
+) -> Result<Action, Unread>
+    ensures { Matches Unread.Memory (λ a. a) result (spec.line_action system.now (tokens_of tokens.now)) }
 {
     match behind_number(tokens) {
         [first, rest @ ..] => match &first.token {
             Token::Word(name) => named_action(alloc, system, name.as_bytes(), rest),
-            Token::Number(_) | Token::Mark(_) | Token::LeftOut(_) => Ok(None),
+            Token::Number(_) | Token::Mark(_) | Token::LeftOut(_) => {
+                Err(refusal_in_front_of(rest))
+            }
         },
-        [] => Ok(None),
+        [] => Err(Unread::Unexpected(0)),
     }
 }

@@ -7,12 +7,20 @@ ghost use Rattle.ioa_lines.specs.Reading as spec;
 ghost use Rattle.ioa_value_reader.specs.Reading as values;
 
 use ioa_cursor::{Tokens, Unread};
-use ioa_terms::{Names, Shape, Value};
+use ioa_terms::{Names, Shape, ShapeForm, Value};
 use ioa_tokens::Mark;
 use ioa_value_reader::read_value;
 use std::alloc::Global;
 
-/// A value of a shape.
+/// Whether a shape is of constants. The reader goes past a name before it looks for its constant.
+fn is_of_constants(shape: &Shape) -> bool {
+    match &shape.form {
+        ShapeForm::Constants(_, _, _) => true,
+        _ => false,
+    }
+}
+
+/// A value of a shape. A name that is none of the shape's constants is refused itself, and not what stands behind it.
 pub(crate) fn value(
     alloc: Global,
     names: &Names,
@@ -21,9 +29,20 @@ pub(crate) fn value(
 ) -> Result<Value, Unread>
     ensures { Reads (λ v. v) (values.read_value names.now shape.now tokens.old) result tokens.new }
 {
+    let left = tokens.len();
     match read_value(alloc, names, shape, tokens)? {
         Some(value) => Ok(value),
-        None => Err(tokens.refusal()),
+        None => Err(refusal_of(shape, left, tokens)),
+    }
+}
+
+/// The refusal of what is no value of a shape, by how many tokens are left from its first one on, and by those that the
+/// reader left.
+fn refusal_of(shape: &Shape, left: usize, tokens: &Tokens<'_>) -> Unread {
+    if is_of_constants(shape) {
+        Unread::Unexpected(left)
+    } else {
+        tokens.refusal()
     }
 }
 

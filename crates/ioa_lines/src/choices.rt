@@ -1,7 +1,6 @@
 //! The values that an effect chose, from the first `choose` of a line on.
 
 ghost use Rattle.std.specs.Prelude.{◌≡◌, ◌≤◌, [], IfOk, length};
-ghost use Rattle.std.specs.Option.{option_map};
 ghost use Rattle.ioa_values.specs.Outcome.{Matches};
 ghost use Rattle.ioa_cursor.specs.Outcome.{Reads};
 ghost use Rattle.ioa_cursor.specs.Reading.{several_more, skip};
@@ -96,9 +95,9 @@ fn listed_choices(
     Ok(values)
 }
 
-/// `choose`, the values and nothing behind; none if there is no token.
+/// The values that tokens from `choose` on spell, with nothing behind; none if there is no token.
 #[tactic(auto, unfolding(crate::specs::Reading::read_chosen, crate::specs::bind))]
-fn read_chosen<'t>(
+pub(crate) fn read_chosen<'t>(
     alloc: Global,
     names: &Names,
     tokens: &'t [LocatedToken<'t>],
@@ -113,20 +112,4 @@ fn read_chosen<'t>(
     let values = listed_choices(alloc, names, &mut rest)?;
     rest.end()?;
     Ok(values)
-}
-
-/// The values that tokens from `choose` on spell, none if there is no token. `None` if they spell no values.
-pub(crate) fn chosen_values<'t>(
-    alloc: Global,
-    names: &Names,
-    tokens: &'t [LocatedToken<'t>],
-) -> Result<Option<Vec<Value>>, AllocError>
-    ensures { IfOk result
-        (λ o. option_map (λ v. v.items) o ≡ spec.read_chosen names.now (tokens_of tokens.now)) }
-{
-    match read_chosen(alloc, names, tokens) {
-        Ok(values) => Ok(Some(values)),
-        Err(Unread::Memory) => Err(AllocError),
-        Err(Unread::Unexpected(_) | Unread::TooDeep(_) | Unread::LeftOut(_, _)) => Ok(None),
-    }
 }

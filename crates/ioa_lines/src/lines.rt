@@ -8,11 +8,25 @@ ghost use Rattle.ioa_lines.specs.Lines.{bytes_behind, lines_behind, lines_left, 
 
 use crate::entry::entry_spelled;
 use crate::fault::LineFault;
+use crate::stops::left_from_name;
+use ioa_cursor::{Unread, offset_of};
 use ioa_system::System;
 use ioa_tokens::{CutFault, LocatedToken, cut_line_into};
 use ioa_transitions::Entry;
 use std::alloc::Global;
 use std::marker::Model;
+
+/// A line of a text, by offsets in the text.
+#[derive(Clone, Copy, Debug, PartialEq, Eq)]
+pub struct LineSpan {
+    /// Where the line begins.
+    pub start: usize,
+    /// Where it ends, in front of its line feed.
+    pub end: usize,
+    /// If it spells no entry, where reading stopped: at the token that does not fit, or at what is no token, or at the
+    /// end if the line ends too early.
+    pub stop: Option<usize>,
+}
 
 /// The lines of a text that are still to be read, and how many with tokens came before them. All lines are cut into one
 /// list of tokens, so that no line takes memory but for its entry. A contract sees the lines and the number.
@@ -24,6 +38,14 @@ pub struct ScheduleLines<'a> {
     tokens: Vec<LocatedToken<'a>>,
     /// How many lines with tokens were read.
     count: usize,
+    /// How many bytes the text has.
+    length: usize,
+    /// The line that was read last; nothing before the first.
+    line: &'a str,
+    /// Where it begins in the text.
+    start: usize,
+    /// Where reading stopped in it, if it spells no entry.
+    stop: Option<usize>,
 }
 
 impl<'a> Model for ScheduleLines<'a> {
@@ -50,13 +72,15 @@ fn first_line(text: &str) -> (&str, Option<&str>)
     }
 }
 
-/// The entry that a line spells, behind `count` others that have tokens; nothing if it has no token.
+/// The entry that a line spells, behind `count` others that have tokens; nothing if it has no token. If it spells none,
+/// it says where reading stopped.
 fn line_entry<'a>(
     alloc: Global,
     system: &System,
     count: usize,
     line: &'a str,
     tokens: &mut Vec<LocatedToken<'a>>,
+    stop: &mut Option<usize>,
 ) -> Result<Option<Entry>, LineFault>
     ensures { Answers LineFault.Memory (λ o. o) result
         (spec.cut_entry system.now count (line_tokens line.now)) }
@@ -64,16 +88,33 @@ fn line_entry<'a>(
     match cut_line_into(line, tokens) {
         Ok(()) => {}
         Err(CutFault::Memory) => return Err(LineFault::Memory),
-        Err(CutFault::BadCharacter(_) | CutFault::NumberTooLarge(_)) => {
+        Err(CutFault::BadCharacter(offset) | CutFault::NumberTooLarge(offset)) => {
+            *stop = Some(offset);
             return Err(LineFault::BadLine(count));
         }
     }
     if tokens.is_empty() {
         return Ok(None);
     }
-    match entry_spelled(alloc, system, tokens)? {
-        Some(entry) => Ok(Some(entry)),
-        None => Err(LineFault::BadLine(count)),
+    match entry_spelled(alloc, system, tokens) {
+        Ok(entry) => Ok(Some(entry)),
+        Err(Unread::Memory) => Err(LineFault::Memory),
+        Err(Unread::Unexpected(left) | Unread::TooDeep(left) | Unread::LeftOut(_, left)) => {
+            let left = left_from_name(system.names(), tokens, left);
+            *stop = Some(offset_of(tokens, left, line.len()));
+            Err(LineFault::BadLine(count))
+        }
+    }
+}
+
+/// Where reading stopped in a text, by where it stopped in a line of it.
+fn stop_within(start: usize, end: usize, stop: Option<usize>) -> Option<usize>
+    requires { start ≤ end }
+    ensures { IfSome result (λ at. (start ≤ at) × (at ≤ end)) }
+{
+    match stop {
+        Some(offset) => Some(start.saturating_add(offset).min(end)),
+        None => None,
     }
 }
 
@@ -86,6 +127,10 @@ impl<'a> ScheduleLines<'a> {
             rest: Some(text),
             tokens: Vec::new(alloc),
             count: 0,
+            length: text.len(),
+            line: "",
+            start: 0,
+            stop: None,
         }
     }
 
@@ -94,6 +139,19 @@ impl<'a> ScheduleLines<'a> {
         ensures { result ≡ self.now.count }
     {
         self.count
+    }
+
+    /// The line that was read last, and where reading stopped in it if it spells no entry.
+    pub fn last_line(&self) -> LineSpan
+        ensures order { result.start ≤ result.end }
+        ensures stop { IfSome result.stop (λ at. (result.start ≤ at) × (at ≤ result.end)) }
+    {
+        let end = self.start.saturating_add(self.line.len());
+        LineSpan {
+            start: self.start,
+            end,
+            stop: stop_within(self.start, end, self.stop),
+        }
     }
 
     /// Reads on up to the next line that has tokens, and returns the entry of the system that it spells. None at the
@@ -115,7 +173,11 @@ impl<'a> ScheduleLines<'a> {
         while let Some(text) = self.rest {
             let (line, rest) = first_line(text);
             self.rest = rest;
-            if let Some(entry) = line_entry(alloc, system, self.count, line, &mut self.tokens)? {
+            self.line = line;
+            self.start = self.length.saturating_sub(text.len());
+            self.stop = None;
+            let (tokens, stop) = (&mut self.tokens, &mut self.stop);
+            if let Some(entry) = line_entry(alloc, system, self.count, line, tokens, stop)? {
                 self.count += 1;
                 return Ok(Some(entry));
             }

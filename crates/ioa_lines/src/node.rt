@@ -80,7 +80,7 @@ fn number_at(tokens: &[LocatedToken<'_>], place: usize) -> Option<i64>
 }
 
 /// Where the number of the node is behind an action's name, counted from the end.
-fn node_place(name: &[u8], tokens: &[LocatedToken<'_>]) -> usize
+pub(crate) fn node_place(name: &[u8], tokens: &[LocatedToken<'_>]) -> usize
     ensures place { result ≡ spec.node_place name.now (tokens_of tokens.now) }
     ensures near { result ≤ 5 }
 {

@@ -1,5 +1,5 @@
 -- The steps that lines take, against their meaning.
-use Rattle.std.proofs.Common.{◌≡◌, ℕ, zero, suc, ◌+◌, List, [], ◌∷◌, Option, Some, None, Result, Ok, Err, refl, ap, sym, ◌∙◌}
+use Rattle.std.proofs.Common.{◌≡◌, ℕ, zero, suc, ◌+◌, List, [], ◌∷◌, ◌++◌, Option, Some, None, Result, Ok, Err, refl, ap, sym, ◌∙◌}
 use Rattle.std.specs.Prelude.{IfOk, slice_get, take}
 use Rattle.ioa_values.specs.Outcome.{and_then}
 use Rattle.ioa_actions.specs.declared.fault.StepFault.{StepFault}
@@ -10,6 +10,8 @@ use Rattle.ioa_compose.specs.declared.configuration.Conf.{Conf}
 use Rattle.ioa_compose.specs.Composition.{joint_answer}
 use Rattle.ioa_compose.specs.Executions.{after_step, replay}
 use Rattle.ioa_compose.specs.Start.{start}
+use Rattle.std.proofs.lemmas.List.{append_assoc}
+use Rattle.ioa_compose.proofs.Replays.{replay-push}
 use Rattle.ioa_lines.specs.Lines as lines
 use Rattle.ioa_lines.specs.Lines.{Entries, Lines, cut_entry, entries_by, entries_from, lines_answer, lines_left, lines_of, with_entry}
 use Rattle.ioa_lines.specs.declared.fault.LineFault.{LineFault}
@@ -19,8 +21,20 @@ use Rattle.ioa_schedule_check.specs.declared.given.GivenSchedule.{GivenSchedule}
 use Rattle.std.specs.declared.alloc.AllocError.{AllocError}
 use Rattle.ioa_schedule_check.specs.Schedules.{IsExecutionSpelled, StopsAtStep, after_step_at, schedule_answer}
 use Rattle.ioa_schedule_check.specs.Schedules.{steps_answer, steps_of_lines}
-use Rattle.ioa_schedule_check.specs.Taken.{IsWholeIf, answer_by, taken_at, taken_by, taken_from, taken_left, taken_of}
+use Rattle.ioa_schedule_check.specs.Taken.{IsWholeIf, LeadsOn, answer_by, taken_at, taken_by, taken_from, taken_left, taken_of}
 use Rattle.ioa_schedule_check.proofs.Meant.{Replays}
+
+-- an entry more leads one step further
+pub leads_further : (old taken log : List PlainEntry) (cs mid next : List Conf) (e : PlainEntry)
+    → LeadsOn old cs taken mid → joint_answer e mid ≡ Ok next → log ≡ taken ++ e ∷ [] → LeadsOn old cs log next
+leads_further old taken log cs mid next e leads step put =
+    λ first before. rw put (replay-push taken e first mid next (leads first before) step)
+
+-- an entry is taken, and then what is taken behind it
+pub takes_further : (taken log rest more all : List PlainEntry) (e : PlainEntry) → log ≡ taken ++ e ∷ []
+    → rest ≡ e ∷ more → taken ++ rest ≡ all → log ++ more ≡ all
+takes_further taken log rest more all e put next before =
+    rw put (append_assoc taken (e ∷ []) more) ∙ ap (λ (xs : List PlainEntry). taken ++ xs) (sym next) ∙ before
 
 -- the steps that entries take one after another, as far as they take any
 abbrev longest : List PlainEntry → List Conf → List PlainEntry

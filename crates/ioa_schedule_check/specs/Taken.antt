@@ -60,6 +60,22 @@ abbrev pub TakesAll : Result (Unit {0}) ScheduleFault → (old new more : List P
 TakesAll (Ok x) old new more = new ≡ old ++ more
 TakesAll (Err f) old new more = (f ≡ Memory) ⊎ (new ≡ old ++ more)
 
+-- what the next step of lines does to the configurations: an entry that is taken moves them, and nothing else does
+abbrev pub MovesNext : List Conf → Result (Option PlainEntry) ScheduleFault → List Conf → Type 0
+MovesNext cs (Ok (Some e)) next = joint_answer e cs ≡ Ok next
+MovesNext cs (Ok None) next = next ≡ cs
+MovesNext cs (Err f) next = next ≡ cs
+
+-- from where entries lead to these configurations, more of them lead to those
+abbrev pub LeadsOn : (old : List PlainEntry) (cs : List Conf) (new : List PlainEntry) (next : List Conf) → Type 0
+LeadsOn old cs new next = (first : List Conf) → replay old first ≡ Some cs → replay new first ≡ Some next
+
+-- so do the entries that lines take, unless memory ran out
+abbrev pub MovesAll : Result (Unit {0}) ScheduleFault → (old : List PlainEntry) (cs : List Conf)
+    (new : List PlainEntry) (next : List Conf) → Type 0
+MovesAll (Ok x) old cs new next = LeadsOn old cs new next
+MovesAll (Err f) old cs new next = (f ≡ Memory) ⊎ LeadsOn old cs new next
+
 -- an answer, by the refusal that it has or has not
 abbrev pub answer_by : Option ScheduleFault → Result (Unit {0}) ScheduleFault
 answer_by None = Ok tt

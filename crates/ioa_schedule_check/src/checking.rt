@@ -6,7 +6,7 @@ ghost use Rattle.ioa_schedule_check.specs.Schedules.{IsExecutionSpelled, schedul
 ghost use Rattle.ioa_schedule_check.specs.Taken.{steps_left};
 
 use crate::fault::ScheduleFault;
-use crate::going::go_on;
+use crate::going::{Culprit, go_on};
 use ioa_course::Course;
 use ioa_lines::ScheduleLines;
 use ioa_system::System;
@@ -43,7 +43,7 @@ fn follow(
 ) -> Result<(), ScheduleFault>
     ensures { Answers ScheduleFault.Memory (λ u. u) result (steps_left system.now lines.old course.old) }
 {
-    let mut refused = None;
+    let mut refused = Culprit::none();
     while let Some(_entry) = go_on(alloc, system, course, lines, &mut refused)? {}
     Ok(())
 }

@@ -7,28 +7,48 @@ ghost use Rattle.ioa_lines.specs.Lines.{entries_left};
 ghost use Rattle.ioa_schedule_check.specs.Schedules as spec;
 ghost use Rattle.ioa_schedule_check.specs.Schedules.{all_read};
 ghost use Rattle.ioa_schedule_check.specs.Taken as taken;
-ghost use Rattle.ioa_schedule_check.specs.Taken.{RefusesNext, TakesNext};
+ghost use Rattle.ioa_schedule_check.specs.Taken.{MovesNext, RefusesNext, TakesNext};
 
 use crate::fault::{ScheduleFault, fault_at};
 use ioa_actions::StepFault;
 use ioa_course::Course;
-use ioa_lines::{LineFault, ScheduleLines};
+use ioa_lines::{LineFault, LineSpan, ScheduleLines};
 use ioa_system::System;
 use ioa_transitions::Entry;
 use std::alloc::Global;
 
+/// For what lines are refused.
+#[derive(Drop)]
+pub(crate) struct Culprit {
+    /// The line.
+    pub line: Option<LineSpan>,
+    /// The entry that it spells, if it spells one.
+    pub entry: Option<Entry>,
+}
+
+impl Culprit {
+    /// None yet.
+    pub(crate) fn none() -> Self {
+        Culprit {
+            line: None,
+            entry: None,
+        }
+    }
+}
+
 /// Takes the step of the entry that the next line with tokens spells, and returns the entry; none if no line is left.
 /// If that is no step, the lines behind it are still read, since a line that spells no entry is told before it. With a
-/// refusal it says for which entry the lines are refused, if for one.
+/// refusal it says for which line the lines are refused, and for which entry, if for one.
 pub(crate) fn go_on(
     alloc: Global,
     system: &System,
     course: &mut Course,
     lines: &mut ScheduleLines<'_>,
-    refused: &mut Option<Entry>,
+    refused: &mut Culprit,
 ) -> Result<Option<Entry>, ScheduleFault>
     ensures next { TakesNext system.now lines.old course.old result lines.new course.new }
-    ensures refused { RefusesNext system.now lines.old course.old result lines.new course.new refused.new }
+    ensures refused { RefusesNext system.now lines.old course.old result lines.new course.new refused.new.entry }
+    ensures moves { MovesNext course.old result course.new }
     ensures fewer { IfOk result (λ o. IfSome o (λ _. length lines.new.lines < length lines.old.lines)) }
 {
     let place = lines.count();
@@ -36,17 +56,33 @@ pub(crate) fn go_on(
         Ok(Some(entry)) => entry,
         Ok(None) => return Ok(None),
         Err(fault) => {
-            *refused = None;
+            *refused = Culprit {
+                line: Some(lines.last_line()),
+                entry: None,
+            };
             return Err(ScheduleFault::from(fault));
         }
     };
     match course.advance(alloc, &entry) {
         Ok(()) => Ok(Some(entry)),
         Err(fault) => {
+            let line = lines.last_line();
             let fault = refusal(alloc, system, lines, place, fault);
-            *refused = refused_for(fault, entry);
+            *refused = culprit_of(fault, entry, line, lines.last_line());
             Err(fault)
         }
+    }
+}
+
+/// For what lines are refused with this fault: for this entry in its line, or for the line that was read last.
+fn culprit_of(fault: ScheduleFault, entry: Entry, line: LineSpan, last: LineSpan) -> Culprit
+    ensures { result.entry ≡ taken.refused_for fault entry }
+{
+    let entry = refused_for(fault, entry);
+    let line = if entry.is_some() { line } else { last };
+    Culprit {
+        line: Some(line),
+        entry,
     }
 }
 

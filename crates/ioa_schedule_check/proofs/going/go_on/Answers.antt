@@ -33,7 +33,7 @@ pub returns-in-Ok-None-clause-refused : goal.returns-in-Ok-None-clause-refused
 returns-in-Ok-None-clause-refused c =
     let read = rw c.in-Ok-None.field-0-is at c.in-Ok-None.ensures.entries in
     refuses_none c.args.system.now c.args.lines.now c.next.new.self c.args.course.now c.args.course.now
-    c.args.refused.now read
+    c.args.refused.now.entry read
 
 pub returns-in-Err-clause-refused : goal.returns-in-Err-clause-refused
 returns-in-Err-clause-refused c =
@@ -45,12 +45,12 @@ returns-in-Ok-clause-refused c =
     let read = rw c.in-Ok-Some.field-0-is at c.in-Ok-Some.ensures.entries in
     let next = rw c.in-Ok-Some.field-0-is at c.in-Ok-Some.ensures.answer in
     refuses_later c.args.system.now c.args.lines.now c.next.new.self c.in-Ok-Some.entry c.args.course.now
-    c.advance.new.self c.args.refused.now read next c.in-Ok.ensures.answer
+    c.advance.new.self c.args.refused.now.entry read next c.in-Ok.ensures.answer
 
 pub returns-in-Err-advance-clause-refused : goal.returns-in-Err-advance-clause-refused
 returns-in-Err-advance-clause-refused c =
     let read = rw c.in-Ok-Some.field-0-is at c.in-Ok-Some.ensures.entries in
     let told = rw c.count-place.ensures at c.refusal-fault.ensures.told in
     refuses_here c.args.system.now c.args.lines.now c.next.new.self c.in-Ok-Some.entry c.args.course.now
-    c.advance.new.self c.in-Err-advance.fault c.refusal-fault.result c.next.new.self c.refused_for.result read
-    c.in-Err-advance.ensures.answer c.refusal-fault.ensures.memory told c.refused_for.ensures
+    c.advance.new.self c.in-Err-advance.fault c.refusal-fault.result c.next.new.self c.culprit_of.result.entry read
+    c.in-Err-advance.ensures.answer c.refusal-fault.ensures.memory told c.culprit_of.ensures
