@@ -20,7 +20,7 @@ is_not word same other is = apart (sym same ∙ ap (λ s. bytes_eq s word) (sym 
 named : (name : Text) (rows : List Row) (choice : Subcommand) → name ≡ codes "trace" → IsOfTrace rows choice
     → IsChosenBy (Some (name, rows)) choice
 named name rows (Run r) is h = absurd h
-named name rows (Explain input) is h = absurd h
+named name rows (Explain c) is h = absurd h
 named name rows (Trace t) is h = (is, h)
 named name rows (Replay r) is h = (is, h)
 named name rows (Check c) is h = absurd h
@@ -29,7 +29,7 @@ named name rows (Print input) is h = absurd h
 of_trace : (name : Text) (rows : List Row) (choice : Subcommand) → name ≡ codes "trace"
     → IsChosenBy (Some (name, rows)) choice → IsOfTrace rows choice
 of_trace name rows (Run r) is h = absurd (is_not (codes "run") refl refl (sym is ∙ h.0))
-of_trace name rows (Explain input) is h = absurd (is_not (codes "explain") refl refl (sym is ∙ h.0))
+of_trace name rows (Explain c) is h = absurd (is_not (codes "explain") refl refl (sym is ∙ h.0))
 of_trace name rows (Trace t) is h = h.1
 of_trace name rows (Replay r) is h = h.1
 of_trace name rows (Check c) is h = absurd (is_not (codes "check") refl refl (sym is ∙ h.0))

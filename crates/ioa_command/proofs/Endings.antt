@@ -21,27 +21,29 @@ use Rattle.ioa_pipeline.specs.declared.printing.PrintFault.{PrintFault}
 use Rattle.ioa_pipeline.specs.declared.printing.PrintFault.TheVariants as print
 use Rattle.ioa_pipeline.specs.declared.tracing.TraceFault.{TraceFault}
 use Rattle.ioa_pipeline.specs.declared.tracing.TraceFault.TheVariants as trace
+use Rattle.ioa_pipeline.specs.declared.replaying.ReplayFault.{ReplayFault}
 use Rattle.ioa_pipeline.specs.declared.replaying.ReplayFault.TheVariants as replay
-use Rattle.ioa_schedule_check.specs.declared.fault.ScheduleFault.{ScheduleFault}
 use Rattle.ioa_pipeline.specs.declared.whole_run.RunFault.{RunFault}
 use Rattle.ioa_pipeline.specs.declared.whole_run.RunFault.TheVariants as run
 use Rattle.ioa_pipeline.specs.declared.schedule_check.CheckScheduleFault.{CheckScheduleFault}
 use Rattle.ioa_pipeline.specs.declared.schedule_check.CheckScheduleFault.TheVariants as check
 use Rattle.ioa_command.specs.declared.choice.InputName.{InputName}
+use Rattle.ioa_command.specs.declared.choice.ExplainChoice.{ExplainChoice}
 use Rattle.ioa_command.specs.declared.choice.RunChoice.{RunChoice}
 use Rattle.ioa_command.specs.declared.choice.TraceChoice.{TraceChoice}
 use Rattle.ioa_command.specs.declared.choice.ReplayChoice.{ReplayChoice}
 use Rattle.ioa_command.specs.declared.choice.CheckChoice.{CheckChoice}
 use Rattle.ioa_command.specs.declared.choice.Subcommand.TheVariants as subcommand
 use Rattle.ioa_command.specs.declared.faults.TextFault.{TextFault}
-use Rattle.ioa_command.specs.declared.faults.TextFault.TheVariants.{Input, Unread, Run, Explain, Trace, Check, Print}
+use Rattle.ioa_command.specs.declared.faults.TextFault.TheVariants.{Input, Unread, Run, Explain, Trace, Replay, Check, Print}
 use Rattle.ioa_pipeline.specs.declared.judging.Judging.{Judging}
 use Rattle.ioa_command.specs.Command.{ChecksGivenIn, ChecksIn, IsFound, Judges, Replays, Traces}
 use Rattle.ioa_command.specs.Command.{Ends, Executes, Follows, IsDone, IsTraced, Output, Prints, PrintsText, Reports}
-use Rattle.ioa_command.specs.Command.{ExplainsAs, ExplainsText, IsExplained, RunsText, ShowsWords, Tells, TracesText}
-use Rattle.ioa_command.specs.Command.{IsReplayed, ReplaysRefused, ReplaysSchedule}
+use Rattle.ioa_command.specs.Command.{ExplainsAs, ExplainsInputs, IsExplained, RunsText, ShowsWords, Tells, TracesText}
+use Rattle.ioa_command.specs.Command.{IsLinesRefusal, IsReplayed, ReplaysRefused, ReplaysSchedule}
 use Rattle.ioa_command.specs.Command.{explained_status, found_status, no_finding}
-use Rattle.ioa_command.specs.Faults.{check_status, fault_status, input_status, print_status, run_status, trace_status}
+use Rattle.ioa_command.specs.Faults.{check_status, fault_status, input_status, print_status, replay_status, run_status}
+use Rattle.ioa_command.specs.Faults.{trace_status}
 use Rattle.ioa_command.specs.FailOn.{meet}
 use Rattle.ioa_command.specs.Inputs.{given_by}
 use Rattle.ioa_command.specs.CommandLine.{AsksForText, Chooses, IsErrorOf, program_app, words_status}
@@ -81,12 +83,18 @@ trace_range : (f : TraceFault) → IsOneOrThree (trace_status f)
 trace_range (trace.Run f) = run_range f
 trace_range trace.Differs = inr refl
 
+replay_range : (f : ReplayFault) → IsOneOrThree (replay_status f)
+replay_range (replay.Check f) = check_range f
+replay_range (replay.NoStep f why) = inl refl
+replay_range replay.Differs = inr refl
+
 fault_range : (f : TextFault) → IsOneOrThree (fault_status f)
 fault_range (Input f) = input_range f
 fault_range (Unread name) = inr refl
 fault_range (Run f) = run_range f
 fault_range (Explain f) = inr refl
 fault_range (Trace f) = trace_range f
+fault_range (Replay f) = replay_range f
 fault_range (Check f) = check_range f
 fault_range (Print f) = print_range f
 
@@ -208,16 +216,16 @@ replays words given out err status r outcome chosen replayed told free =
     (r, chosen, (done.0, subst (IsReplayed r given out) done.1 replayed, done.2))
 
 -- a status that no fault has is that of what is told of a text, if the words choose `explain`
-explain_done : (words : List Text) (given : Option (List ℕ)) (out err : Output) (status : ℕ) (input : InputName)
-    (outcome : Result Finding TextFault) → Chooses words (subcommand.Explain input) → IsExplained input given out outcome
+explain_done : (words : List Text) (given : Option (List ℕ)) (out err : Output) (status : ℕ) (c : ExplainChoice)
+    (outcome : Result Finding TextFault) → Chooses words (subcommand.Explain c) → IsExplained c given out outcome
     → Tells explained_status err status outcome → status ≡ 0 → ExplainsAs NothingWrong words given out
-explain_done words given out err status input outcome chosen explained told done =
+explain_done words given out err status c outcome chosen explained told done =
     let what = done_of_told explained_status err status outcome told (none_is_one status done) in
     let found : explained_status what.0 ≡ 0 = sym what.2 ∙ done in
-    (input, chosen, go what.0 found (subst (IsExplained input given out) what.1 explained))
+    (c, chosen, go what.0 found (subst (IsExplained c given out) what.1 explained))
   where
-    go : (f : Finding) → explained_status f ≡ 0 → ExplainsText input given out (Ok f)
-        → ExplainsText input given out (Ok NothingWrong)
+    go : (f : Finding) → explained_status f ≡ 0 → ExplainsInputs c given out (Ok f)
+        → ExplainsInputs c given out (Ok NothingWrong)
     go NothingWrong none h = h
     go Refused none h =
         let bad : 1 ≡ 0 = none in
@@ -235,8 +243,8 @@ pub done_of : (words : List Text) (given : Option (List ℕ)) (out err : Output)
 done_of words given out err status (inl (subcommand.Run r, chosen, (outcome, ran, told))) done =
     inl (subst (Reports words given out) done
     (reports words given out err status r outcome chosen ran told (none_is_one status done)))
-done_of words given out err status (inl (subcommand.Explain input, chosen, (outcome, explained, told))) done =
-    inr (inl (explain_done words given out err status input outcome chosen explained told done))
+done_of words given out err status (inl (subcommand.Explain c, chosen, (outcome, explained, told))) done =
+    inr (inl (explain_done words given out err status c outcome chosen explained told done))
 done_of words given out err status (inl (subcommand.Trace t, chosen, (outcome, traced, told))) done =
     inr (inr (inl (subst (Traces words given out) done
     (traces words given out err status t outcome chosen traced told (none_is_one status done)))))
@@ -283,7 +291,7 @@ pub found_of : (words : List Text) (given : Option (List ℕ)) (out err : Output
 found_of words given out err status (inl (subcommand.Run r, chosen, (outcome, ran, told))) four =
     inl (subst (Reports words given out) four
     (reports words given out err status r outcome chosen ran told (four_is_none status four)))
-found_of words given out err status (inl (subcommand.Explain input, chosen, (outcome, explained, told))) four =
+found_of words given out err status (inl (subcommand.Explain c, chosen, (outcome, explained, told))) four =
     absurd (explain_finds_none err status outcome told four)
 found_of words given out err status (inl (subcommand.Trace t, chosen, (outcome, traced, told))) four =
     inr (inl (subst (Traces words given out) four
@@ -358,6 +366,7 @@ traced_kept t given out (Unread name) traced refuses = traced.1.1
 traced_kept t given out (Run f) traced refuses = absurd traced
 traced_kept t given out (Explain f) traced refuses = absurd traced
 traced_kept t given out (Trace f) traced refuses = trace_kept t given out f traced refuses
+traced_kept t given out (Replay f) traced refuses = absurd traced
 traced_kept t given out (Check f) traced refuses = absurd traced
 traced_kept t given out (Print f) traced refuses = absurd traced
 
@@ -368,6 +377,7 @@ executed_kept r given out (Unread name) ran refuses = ran.1.1
 executed_kept r given out (Run f) ran refuses = run_kept r given out f ran refuses
 executed_kept r given out (Explain f) ran refuses = absurd ran
 executed_kept r given out (Trace f) ran refuses = absurd ran
+executed_kept r given out (Replay f) ran refuses = absurd ran
 executed_kept r given out (Check f) ran refuses = absurd ran
 executed_kept r given out (Print f) ran refuses = absurd ran
 
@@ -378,6 +388,7 @@ printed_kept input given out (Unread name) printed refuses = printed.1.1
 printed_kept input given out (Run f) printed refuses = absurd printed
 printed_kept input given out (Explain f) printed refuses = absurd printed
 printed_kept input given out (Trace f) printed refuses = absurd printed
+printed_kept input given out (Replay f) printed refuses = absurd printed
 printed_kept input given out (Check f) printed refuses = absurd printed
 printed_kept input given out (Print f) printed refuses = print_kept (given_by input given) out f printed refuses
 
@@ -404,6 +415,7 @@ followed_kept c given out (Unread name) followed refuses = followed.1.1
 followed_kept c given out (Run f) followed refuses = absurd followed
 followed_kept c given out (Explain f) followed refuses = absurd followed
 followed_kept c given out (Trace f) followed refuses = absurd followed
+followed_kept c given out (Replay f) followed refuses = absurd followed
 followed_kept c given out (Check f) followed refuses =
     check_kept c.judging c.input c.schedule given out f followed refuses
 followed_kept c given out (Print f) followed refuses = absurd followed
@@ -436,40 +448,44 @@ abbrev pub LeavesRefused : List Text → Option (List ℕ) → Output → Type 0
 LeavesRefused words given out =
     Keeps out.old out.new ⊎ (ExplainsAs Refused words given out ⊎ ReplaysRefused words given out)
 
-explained_kept : (input : InputName) (given : Option (List ℕ)) (out : Output) (f : TextFault)
-    → IsExplained input given out (Err f) → Refuses (fault_status f) → Keeps out.old out.new
-explained_kept input given out (Input f) explained refuses = explained.1.1
-explained_kept input given out (Unread name) explained refuses = explained.1.1
-explained_kept input given out (Run f) explained refuses = absurd explained
-explained_kept input given out (Explain f) explained refuses = absurd (not_failed 3 refuses refl)
-explained_kept input given out (Trace f) explained refuses = absurd explained
-explained_kept input given out (Check f) explained refuses = absurd explained
-explained_kept input given out (Print f) explained refuses = absurd explained
+explained_kept : (c : ExplainChoice) (given : Option (List ℕ)) (out : Output) (f : TextFault)
+    → IsExplained c given out (Err f) → Refuses (fault_status f) → Keeps out.old out.new
+explained_kept c given out (Input f) explained refuses = explained.1.1
+explained_kept c given out (Unread name) explained refuses = explained.1.1
+explained_kept c given out (Run f) explained refuses = absurd explained
+explained_kept c given out (Explain f) explained refuses = absurd (not_failed 3 refuses refl)
+explained_kept c given out (Trace f) explained refuses = absurd explained
+explained_kept c given out (Replay f) explained refuses = absurd explained
+explained_kept c given out (Check f) explained refuses = absurd explained
+explained_kept c given out (Print f) explained refuses = absurd explained
 
-explain_leaves : (words : List Text) (given : Option (List ℕ)) (out err : Output) (status : ℕ) (input : InputName)
-    (outcome : Result Finding TextFault) → Chooses words (subcommand.Explain input) → IsExplained input given out outcome
+explain_leaves : (words : List Text) (given : Option (List ℕ)) (out err : Output) (status : ℕ) (c : ExplainChoice)
+    (outcome : Result Finding TextFault) → Chooses words (subcommand.Explain c) → IsExplained c given out outcome
     → Tells explained_status err status outcome → Refuses status → LeavesRefused words given out
-explain_leaves words given out err status input (Ok NothingWrong) chosen explained told refuses =
+explain_leaves words given out err status c (Ok NothingWrong) chosen explained told refuses =
     absurd (not_done status refuses told.0)
-explain_leaves words given out err status input (Ok Refused) chosen explained told refuses =
-    inr (inl (input, chosen, explained))
-explain_leaves words given out err status input (Err f) chosen explained told refuses = elim told [
-  | inl line ↦ inl (explained_kept input given out f explained (subst Refuses line.0 refuses))
+explain_leaves words given out err status c (Ok Refused) chosen explained told refuses =
+    inr (inl (c, chosen, explained))
+explain_leaves words given out err status c (Err f) chosen explained told refuses = elim told [
+  | inl line ↦ inl (explained_kept c given out f explained (subst Refuses line.0 refuses))
   | inr memory ↦ absurd (not_failed status refuses memory.0)
 ]
 
 -- a refused replay of a text that was read: nothing went out, or the schedule is refused
 abbrev IsRefusedReplay : ReplayChoice → Option (List ℕ) → Output → Type 0
 IsRefusedReplay r given out =
-    Keeps out.old out.new ⊎ ((f : ScheduleFault) × ReplaysSchedule r given out (Err (replay.Check (check.Schedule f))))
+    Keeps out.old out.new ⊎ ((f : ReplayFault) × IsLinesRefusal f × ReplaysSchedule r given out (Err f))
 
-replay_refused : (r : ReplayChoice) (given : Option (List ℕ)) (out : Output) (f : CheckScheduleFault)
-    → ReplaysSchedule r given out (Err (replay.Check f)) → Refuses (check_status f) → IsRefusedReplay r given out
-replay_refused r given out (check.Front f) replayed refuses = inl (replayed.2.2.0.1)
-replay_refused r given out (check.Check f) replayed refuses = inl (replayed.2.2.0.1)
-replay_refused r given out (check.Schedule f) replayed refuses = inr (f, replayed)
-replay_refused r given out check.Memory replayed refuses = absurd (not_failed 3 refuses refl)
-replay_refused r given out check.Write replayed refuses = absurd (not_failed 3 refuses refl)
+replay_refused : (r : ReplayChoice) (given : Option (List ℕ)) (out : Output) (f : ReplayFault)
+    → ReplaysSchedule r given out (Err f) → Refuses (replay_status f) → IsRefusedReplay r given out
+replay_refused r given out (replay.Check (check.Front f)) replayed refuses = inl (replayed.2.2.0.1)
+replay_refused r given out (replay.Check (check.Check f)) replayed refuses = inl (replayed.2.2.0.1)
+replay_refused r given out (replay.Check (check.Schedule f)) replayed refuses =
+    inr (replay.Check (check.Schedule f), tt, replayed)
+replay_refused r given out (replay.Check check.Memory) replayed refuses = absurd (not_failed 3 refuses refl)
+replay_refused r given out (replay.Check check.Write) replayed refuses = absurd (not_failed 3 refuses refl)
+replay_refused r given out (replay.NoStep f why) replayed refuses = inr (replay.NoStep f why, tt, replayed)
+replay_refused r given out replay.Differs replayed refuses = absurd (not_failed 3 refuses refl)
 
 replayed_refused : (r : ReplayChoice) (given : Option (List ℕ)) (out : Output) (f : TextFault)
     → IsReplayed r given out (Err f) → Refuses (fault_status f) → IsRefusedReplay r given out
@@ -477,9 +493,9 @@ replayed_refused r given out (Input f) replayed refuses = inl replayed.1.1
 replayed_refused r given out (Unread name) replayed refuses = inl replayed.1.1
 replayed_refused r given out (Run f) replayed refuses = absurd replayed
 replayed_refused r given out (Explain f) replayed refuses = absurd replayed
-replayed_refused r given out (Trace (trace.Run f)) replayed refuses = absurd replayed
-replayed_refused r given out (Trace trace.Differs) replayed refuses = absurd (not_failed 3 refuses refl)
-replayed_refused r given out (Check f) replayed refuses = replay_refused r given out f replayed refuses
+replayed_refused r given out (Trace f) replayed refuses = absurd replayed
+replayed_refused r given out (Replay f) replayed refuses = replay_refused r given out f replayed refuses
+replayed_refused r given out (Check f) replayed refuses = absurd replayed
 replayed_refused r given out (Print f) replayed refuses = absurd replayed
 
 replay_leaves : (words : List Text) (given : Option (List ℕ)) (out err : Output) (status : ℕ) (r : ReplayChoice)
@@ -500,8 +516,8 @@ pub refused_of : (words : List Text) (given : Option (List ℕ)) (out err : Outp
 refused_of words given out err status (inl (subcommand.Run r, chosen, (outcome, ran, told))) refuses =
     inl (told_kept (found_status r.fail_on) out err status outcome told (found_free r.fail_on)
     (λ f is. executed_kept r given out f (subst (Executes r given out) is ran)) refuses)
-refused_of words given out err status (inl (subcommand.Explain input, chosen, (outcome, explained, told))) refuses =
-    explain_leaves words given out err status input outcome chosen explained told refuses
+refused_of words given out err status (inl (subcommand.Explain c, chosen, (outcome, explained, told))) refuses =
+    explain_leaves words given out err status c outcome chosen explained told refuses
 refused_of words given out err status (inl (subcommand.Trace t, chosen, (outcome, traced, told))) refuses =
     inl (told_kept (found_status t.fail_on) out err status outcome told (found_free t.fail_on)
     (λ f is. traced_kept t given out f (subst (IsTraced t given out) is traced)) refuses)

@@ -5,9 +5,6 @@ use Rattle.ioa_streams.specs.Parts.{lines_part, text_part}
 use Rattle.ioa_streams.specs.ScheduleParts.{schedule_part}
 use Rattle.ioa_streams.specs.declared.input.TheConstants.{INPUT_LIMIT, SCHEDULE_LIMIT}
 use Rattle.ioa_streams.specs.declared.input.InputFault.TheVariants.{Memory, Read}
-use Rattle.ioa_explain.specs.Explanations.{Explains, IsFindingOn}
-use Rattle.ioa_explain.specs.declared.explaining.Finding.{Finding}
-use Rattle.ioa_explain.specs.declared.fault.ExplainFault.{ExplainFault}
 use Rattle.ioa_pipeline.specs.declared.judging.Judging.{Judging}
 use Rattle.ioa_pipeline.specs.declared.schedule_check.CheckScheduleFault.{CheckScheduleFault}
 use Rattle.ioa_pipeline.specs.Judging.{SaysJudged}
@@ -22,12 +19,12 @@ use Rattle.ioa_command.specs.declared.choice.RunChoice.{RunChoice}
 use Rattle.ioa_command.specs.declared.choice.TraceChoice.{TraceChoice}
 use Rattle.ioa_command.specs.declared.choice.CheckChoice.{CheckChoice}
 use Rattle.ioa_command.specs.declared.faults.TextFault.{TextFault}
-use Rattle.ioa_command.specs.declared.faults.TextFault.TheVariants.{Input, Unread, Run, Explain, Trace, Check, Print}
+use Rattle.ioa_command.specs.declared.faults.TextFault.TheVariants.{Input, Unread, Run, Explain, Trace, Replay, Check, Print}
 use Rattle.ioa_command.specs.Command.{ChecksGivenIn, Executes, Follows, IsChecked, IsCheckedBy}
-use Rattle.ioa_command.specs.Command.{IsExplained, IsFaultOfSchedule, IsKept, IsTraced, Output, Prints}
+use Rattle.ioa_command.specs.Command.{IsFaultOfSchedule, IsKept, IsTraced, Output, Prints}
 use Rattle.ioa_command.specs.Inputs.{IsFaultOfFile, IsFaultOfInput, IsFaultOfLong, IsFaultWithin, IsTextOf}
 use Rattle.ioa_command.specs.Inputs.{IsTextWithin, IsUnread, KeepsStandard, behind, given_behind, given_by}
-use Rattle.ioa_command.specs.Inputs.{schedule_limit, shown_name}
+use Rattle.ioa_command.specs.Inputs.{schedule_limit}
 
 -- a fault of reading
 abbrev pub IsReading : TextFault → Type 0
@@ -36,6 +33,7 @@ IsReading (Unread name) = Unit {0}
 IsReading (Run f) = ⊥
 IsReading (Explain f) = ⊥
 IsReading (Trace f) = ⊥
+IsReading (Replay f) = ⊥
 IsReading (Check f) = ⊥
 IsReading (Print f) = ⊥
 
@@ -46,6 +44,7 @@ unread_file limit name (Unread of) h = h
 unread_file limit name (Run f) h = absurd h
 unread_file limit name (Explain f) h = absurd h
 unread_file limit name (Trace f) h = absurd h
+unread_file limit name (Replay f) h = absurd h
 unread_file limit name (Check f) h = absurd h
 unread_file limit name (Print f) h = absurd h
 
@@ -57,6 +56,7 @@ reading_within limit Standard given (Unread name) h = absurd h
 reading_within limit Standard given (Run f) h = absurd h
 reading_within limit Standard given (Explain f) h = absurd h
 reading_within limit Standard given (Trace f) h = absurd h
+reading_within limit Standard given (Replay f) h = absurd h
 reading_within limit Standard given (Check f) h = absurd h
 reading_within limit Standard given (Print f) h = absurd h
 reading_within limit (File of) given (Input f) h = tt
@@ -64,6 +64,7 @@ reading_within limit (File of) given (Unread name) h = tt
 reading_within limit (File of) given (Run f) h = absurd h
 reading_within limit (File of) given (Explain f) h = absurd h
 reading_within limit (File of) given (Trace f) h = absurd h
+reading_within limit (File of) given (Replay f) h = absurd h
 reading_within limit (File of) given (Check f) h = absurd h
 reading_within limit (File of) given (Print f) h = absurd h
 
@@ -82,6 +83,7 @@ executes_unread r given out (Unread name) h kept = (h, kept)
 executes_unread r given out (Run f) h kept = absurd (is_reading r.input given (Run f) h)
 executes_unread r given out (Explain f) h kept = absurd (is_reading r.input given (Explain f) h)
 executes_unread r given out (Trace f) h kept = absurd (is_reading r.input given (Trace f) h)
+executes_unread r given out (Replay f) h kept = absurd (is_reading r.input given (Replay f) h)
 executes_unread r given out (Check f) h kept = absurd (is_reading r.input given (Check f) h)
 executes_unread r given out (Print f) h kept = absurd (is_reading r.input given (Print f) h)
 
@@ -105,43 +107,22 @@ traces_unread t given out (Unread name) h kept = (h, kept)
 traces_unread t given out (Run f) h kept = absurd (is_reading t.input given (Run f) h)
 traces_unread t given out (Explain f) h kept = absurd (is_reading t.input given (Explain f) h)
 traces_unread t given out (Trace f) h kept = absurd (is_reading t.input given (Trace f) h)
+traces_unread t given out (Replay f) h kept = absurd (is_reading t.input given (Replay f) h)
 traces_unread t given out (Check f) h kept = absurd (is_reading t.input given (Check f) h)
 traces_unread t given out (Print f) h kept = absurd (is_reading t.input given (Print f) h)
 
 -- and so if the run of its text was shown
 pub traces_run : (t : TraceChoice) (given : Option (List ℕ)) (text : List ℕ) (out : Output) (found : Findings)
     → IsTextOf (given_by t.input given) text
-    → ShowsRun text t.options t.format t.fail_on.invariant out.old out.new out.failed (Ok found)
+    → ShowsRun text t.options t.format out.old out.new out.failed (Ok found)
     → IsTraced t given out (Ok found)
 traces_run t given text out found is shown = (text, is, shown, tt)
 
 pub traces_fault : (t : TraceChoice) (given : Option (List ℕ)) (text : List ℕ) (out : Output) (f : TraceFault)
     → IsTextOf (given_by t.input given) text
-    → ShowsRun text t.options t.format t.fail_on.invariant out.old out.new out.failed (Err f) → IsRefusalOfTrace f text
+    → ShowsRun text t.options t.format out.old out.new out.failed (Err f) → IsRefusalOfTrace f text
     → IsTraced t given out (Err (Trace f))
 traces_fault t given text out f is shown refused = (text, is, shown, refused)
-
-pub explains_unread : (input : InputName) (given : Option (List ℕ)) (out : Output) (f : TextFault)
-    → IsFaultOfInput input given f → IsKept out → IsExplained input given out (Err f)
-explains_unread input given out (Input f) h kept = (h, kept)
-explains_unread input given out (Unread name) h kept = (h, kept)
-explains_unread input given out (Run f) h kept = absurd (is_reading input given (Run f) h)
-explains_unread input given out (Explain f) h kept = absurd (is_reading input given (Explain f) h)
-explains_unread input given out (Trace f) h kept = absurd (is_reading input given (Trace f) h)
-explains_unread input given out (Check f) h kept = absurd (is_reading input given (Check f) h)
-explains_unread input given out (Print f) h kept = absurd (is_reading input given (Print f) h)
-
--- and so if it was told what is wrong with its text
-pub explains_text : (input : InputName) (given : Option (List ℕ)) (text : List ℕ) (out : Output) (f : Finding)
-    → IsTextOf (given_by input given) text
-    → Explains (shown_name input) text out.old out.new out.failed (Ok f) → IsFindingOn f text
-    → IsExplained input given out (Ok f)
-explains_text input given text out f t told found = (text, t, told, found)
-
-pub explains_fault : (input : InputName) (given : Option (List ℕ)) (text : List ℕ) (out : Output) (f : ExplainFault)
-    → IsTextOf (given_by input given) text
-    → Explains (shown_name input) text out.old out.new out.failed (Err f) → IsExplained input given out (Err (Explain f))
-explains_fault input given text out f t told = (text, t, told, tt)
 
 pub prints_unread : (input : InputName) (given : Option (List ℕ)) (out : Output) (f : TextFault)
     → IsFaultOfInput input given f → IsKept out → Prints input given out (Err f)
@@ -150,6 +131,7 @@ prints_unread input given out (Unread name) h kept = (h, kept)
 prints_unread input given out (Run f) h kept = absurd (is_reading input given (Run f) h)
 prints_unread input given out (Explain f) h kept = absurd (is_reading input given (Explain f) h)
 prints_unread input given out (Trace f) h kept = absurd (is_reading input given (Trace f) h)
+prints_unread input given out (Replay f) h kept = absurd (is_reading input given (Replay f) h)
 prints_unread input given out (Check f) h kept = absurd (is_reading input given (Check f) h)
 prints_unread input given out (Print f) h kept = absurd (is_reading input given (Print f) h)
 
@@ -160,6 +142,7 @@ follows_unread c given out (Unread name) h kept = (inl h, kept)
 follows_unread c given out (Run f) h kept = absurd (is_reading c.input given (Run f) h)
 follows_unread c given out (Explain f) h kept = absurd (is_reading c.input given (Explain f) h)
 follows_unread c given out (Trace f) h kept = absurd (is_reading c.input given (Trace f) h)
+follows_unread c given out (Replay f) h kept = absurd (is_reading c.input given (Replay f) h)
 follows_unread c given out (Check f) h kept = absurd (is_reading c.input given (Check f) h)
 follows_unread c given out (Print f) h kept = absurd (is_reading c.input given (Print f) h)
 
@@ -170,6 +153,7 @@ checked_unread judging text s given out (Unread name) h kept = (h, kept)
 checked_unread judging text s given out (Run f) h kept = absurd (is_reading_long s given (Run f) h)
 checked_unread judging text s given out (Explain f) h kept = absurd (is_reading_long s given (Explain f) h)
 checked_unread judging text s given out (Trace f) h kept = absurd (is_reading_long s given (Trace f) h)
+checked_unread judging text s given out (Replay f) h kept = absurd (is_reading_long s given (Replay f) h)
 checked_unread judging text s given out (Check f) h kept = absurd (is_reading_long s given (Check f) h)
 checked_unread judging text s given out (Print f) h kept = absurd (is_reading_long s given (Print f) h)
 
@@ -194,6 +178,7 @@ checked_given judging text lines s given out (Err (Unread name)) t h = absurd h
 checked_given judging text lines s given out (Err (Run f)) t h = absurd h
 checked_given judging text lines s given out (Err (Explain f)) t h = absurd h
 checked_given judging text lines s given out (Err (Trace f)) t h = absurd h
+checked_given judging text lines s given out (Err (Replay f)) t h = absurd h
 checked_given judging text lines s given out (Err (Check f)) t h = (lines, t, h)
 checked_given judging text lines s given out (Err (Print f)) t h = absurd h
 
@@ -212,6 +197,7 @@ fault_behind Standard Standard old mid (Unread name) kept h = absurd h
 fault_behind Standard Standard old mid (Run f) kept h = absurd h
 fault_behind Standard Standard old mid (Explain f) kept h = absurd h
 fault_behind Standard Standard old mid (Trace f) kept h = absurd h
+fault_behind Standard Standard old mid (Replay f) kept h = absurd h
 fault_behind Standard Standard old mid (Check f) kept h = absurd h
 fault_behind Standard Standard old mid (Print f) kept h = absurd h
 fault_behind Standard (File name) old mid f kept h = h
@@ -237,6 +223,7 @@ follows_apart c s given mid text out (Err (Unread name)) is kept t h = (
 follows_apart c s given mid text out (Err (Run f)) is kept t h = absurd h
 follows_apart c s given mid text out (Err (Explain f)) is kept t h = absurd h
 follows_apart c s given mid text out (Err (Trace f)) is kept t h = absurd h
+follows_apart c s given mid text out (Err (Replay f)) is kept t h = absurd h
 follows_apart c s given mid text out (Err (Check f)) is kept t h =
     subst (λ o. ChecksGivenIn c.judging c.input o given out (Err f)) (sym is)
     (text, t, (h.0, text_behind (schedule_limit s) c.input s given mid h.0 kept h.1, h.2))
@@ -253,6 +240,7 @@ follows_parts c given input out (Err (Unread name)) is t h = absurd h
 follows_parts c given input out (Err (Run f)) is t h = absurd h
 follows_parts c given input out (Err (Explain f)) is t h = absurd h
 follows_parts c given input out (Err (Trace f)) is t h = absurd h
+follows_parts c given input out (Err (Replay f)) is t h = absurd h
 follows_parts c given input out (Err (Check f)) is t h =
     subst (λ o. ChecksGivenIn c.judging c.input o given out (Err f)) (sym is) (input, t, h)
 follows_parts c given input out (Err (Print f)) is t h = absurd h
@@ -266,5 +254,3 @@ pub ruleset apart_rules = (checked_unread, checked_given)
 pub ruleset run_rules = (executes_unread, executes_run, executes_fault)
 
 pub ruleset trace_rules = (traces_unread, traces_run, traces_fault)
-
-pub ruleset explain_rules = (explains_unread, explains_text, explains_fault)

@@ -1,5 +1,5 @@
 -- What the program does with its words, its input and its two outputs (profile).
-use Rattle.std.specs.Prelude.{◌≡◌, ◌⊎◌, ◌++◌, ℕ, Bool, true, false, if◌then◌else◌, List, codes}
+use Rattle.std.specs.Prelude.{◌≡◌, ◌⊎◌, ◌++◌, ⊤, ℕ, Bool, true, false, if◌then◌else◌, List, codes}
 use Rattle.std.specs.Prelude.{Option, Some, None, Result, Ok, Err, IfErr, IfOk}
 use Rattle.std.specs.Io.KnownBytes.{Keeps, Appends}
 use Rattle.clap.specs.Values.{kind_of}
@@ -15,16 +15,20 @@ use Rattle.ioa_explain.specs.Explanations.{Explains, IsFindingOn}
 use Rattle.ioa_explain.specs.declared.explaining.Finding.{Finding}
 use Rattle.ioa_explain.specs.declared.explaining.Finding.TheVariants.{NothingWrong, Refused}
 use Rattle.ioa_explain.specs.declared.fault.ExplainFault.{ExplainFault}
+use Rattle.ioa_explain.specs.declared.fault.ExplainFault.TheVariants as explain
+use Rattle.ioa_explain_schedule.specs.declared.explaining.LineFinding.{LineFinding}
+use Rattle.ioa_explain_schedule.specs.declared.explaining.LineFinding.TheVariants as lines
+use Rattle.ioa_explain_schedule.specs.declared.fault.ExplainLinesFault.{ExplainLinesFault}
+use Rattle.ioa_explain_schedule.specs.declared.fault.ExplainLinesFault.TheVariants as lines_fault
+use Rattle.ioa_pipeline.specs.Explaining.{ExplainsSchedule, HasNoSystem}
 use Rattle.ioa_pipeline.specs.declared.printing.PrintFault.{PrintFault}
 use Rattle.ioa_pipeline.specs.declared.tracing.TraceFault.{TraceFault}
 use Rattle.ioa_pipeline.specs.declared.whole_run.RunFault.{RunFault}
 use Rattle.ioa_pipeline.specs.declared.schedule_check.CheckScheduleFault.{CheckScheduleFault}
 use Rattle.ioa_pipeline.specs.declared.tracing.Format.{Format}
-use Rattle.ioa_pipeline.specs.declared.tracing.TraceFault.TheVariants as trace
 use Rattle.ioa_pipeline.specs.declared.replaying.ReplayFault.{ReplayFault}
 use Rattle.ioa_pipeline.specs.declared.replaying.ReplayFault.TheVariants as replay
-use Rattle.ioa_pipeline.specs.declared.schedule_check.CheckScheduleFault.TheVariants.{Schedule}
-use Rattle.ioa_schedule_check.specs.declared.fault.ScheduleFault.{ScheduleFault}
+use Rattle.ioa_pipeline.specs.declared.schedule_check.CheckScheduleFault.TheVariants as check
 use Rattle.ioa_pipeline.specs.Replaying.{IsExactForReplay, IsFaultOfReplay, ShowsReplay}
 use Rattle.ioa_pipeline.specs.Tracing.{IsRefusalOfTrace, ShowsRun}
 use Rattle.ioa_pipeline.specs.Printing.{IsFaultOfPrint, PrintsAnew}
@@ -33,6 +37,7 @@ use Rattle.ioa_pipeline.specs.declared.judging.Judging.{Judging}
 use Rattle.ioa_pipeline.specs.Judging.{SaysJudged}
 use Rattle.ioa_pipeline.specs.ScheduleChecks.{IsExactForCheck, IsFaultOfCheck}
 use Rattle.ioa_command.specs.declared.choice.InputName.{InputName}
+use Rattle.ioa_command.specs.declared.choice.ExplainChoice.{ExplainChoice}
 use Rattle.ioa_command.specs.declared.choice.RunChoice.{RunChoice}
 use Rattle.ioa_command.specs.declared.choice.TraceChoice.{TraceChoice}
 use Rattle.ioa_command.specs.declared.choice.ReplayChoice.{ReplayChoice}
@@ -40,7 +45,7 @@ use Rattle.ioa_command.specs.declared.choice.CheckChoice.{CheckChoice}
 use Rattle.ioa_command.specs.declared.choice.Subcommand.{Subcommand}
 use Rattle.ioa_command.specs.declared.choice.Subcommand.TheVariants as subcommand
 use Rattle.ioa_command.specs.declared.faults.TextFault.{TextFault}
-use Rattle.ioa_command.specs.declared.faults.TextFault.TheVariants.{Input, Unread, Run, Explain, Trace, Check, Print}
+use Rattle.ioa_command.specs.declared.faults.TextFault.TheVariants.{Input, Unread, Run, Explain, Trace, Replay, Check, Print}
 use Rattle.ioa_command.specs.CommandLine.{AsksForText, Chooses, IsErrorOf, words_status}
 use Rattle.ioa_command.specs.FailOn.{meet}
 use Rattle.ioa_command.specs.Faults.{fault_line, fault_status}
@@ -137,6 +142,7 @@ IsChecked judging text lines out (Err (Unread name)) = ⊥
 IsChecked judging text lines out (Err (Run f)) = ⊥
 IsChecked judging text lines out (Err (Explain f)) = ⊥
 IsChecked judging text lines out (Err (Trace f)) = ⊥
+IsChecked judging text lines out (Err (Replay f)) = ⊥
 IsChecked judging text lines out (Err (Check f)) = ChecksIn judging text lines out (Err f)
 IsChecked judging text lines out (Err (Print f)) = ⊥
 
@@ -150,6 +156,7 @@ IsCheckedBy judging text schedule given out (Err (Unread name)) =
 IsCheckedBy judging text schedule given out (Err (Run f)) = ⊥
 IsCheckedBy judging text schedule given out (Err (Explain f)) = ⊥
 IsCheckedBy judging text schedule given out (Err (Trace f)) = ⊥
+IsCheckedBy judging text schedule given out (Err (Replay f)) = ⊥
 IsCheckedBy judging text schedule given out (Err (Check f)) =
     ChecksGiven judging text (schedule_limit schedule) (given_by schedule given) out (Err f)
 IsCheckedBy judging text schedule given out (Err (Print f)) = ⊥
@@ -162,6 +169,7 @@ Executes r given out (Err (Unread name)) = IsFaultOfInput r.input given (Unread 
 Executes r given out (Err (Run f)) = RunsText r.options (given_by r.input given) out (Err f)
 Executes r given out (Err (Explain f)) = ⊥
 Executes r given out (Err (Trace f)) = ⊥
+Executes r given out (Err (Replay f)) = ⊥
 Executes r given out (Err (Check f)) = ⊥
 Executes r given out (Err (Print f)) = ⊥
 
@@ -173,6 +181,7 @@ Follows c given out (Err (Unread name)) = IsFaultOfInputs c given (Unread name) 
 Follows c given out (Err (Run f)) = ⊥
 Follows c given out (Err (Explain f)) = ⊥
 Follows c given out (Err (Trace f)) = ⊥
+Follows c given out (Err (Replay f)) = ⊥
 Follows c given out (Err (Check f)) = ChecksSchedule c given out (Err f)
 Follows c given out (Err (Print f)) = ⊥
 
@@ -184,31 +193,112 @@ Prints input given out (Err (Unread name)) = IsFaultOfInput input given (Unread 
 Prints input given out (Err (Run f)) = ⊥
 Prints input given out (Err (Explain f)) = ⊥
 Prints input given out (Err (Trace f)) = ⊥
+Prints input given out (Err (Replay f)) = ⊥
 Prints input given out (Err (Check f)) = ⊥
 Prints input given out (Err (Print f)) = PrintsText (given_by input given) out (Err f)
 
--- the text of the input was explained, under the name of the input
-abbrev pub ExplainsText : InputName → Option (List ℕ) → Output → Result Finding ExplainFault → Type 0
-ExplainsText input given out result =
+-- a text was explained under this name
+abbrev pub ExplainsUnder : List ℕ → List ℕ → Output → Result Finding ExplainFault → Type 0
+ExplainsUnder name text out result =
+    Explains name text out.old out.new out.failed result × IfOk result (λ f. IsFindingOn f text)
+
+-- what is told of a schedule, as of a text
+abbrev pub finding_of : LineFinding → Finding
+finding_of lines.NothingWrong = NothingWrong
+finding_of lines.Refused = Refused
+
+-- what came of the explanation of a schedule, as of one of a text; it came to none if the text has no system
+abbrev pub IsToldAs : Result (Option LineFinding) ExplainLinesFault → Result Finding ExplainFault → Type 0
+IsToldAs (Ok None) result = ⊥
+IsToldAs (Ok (Some f)) result = result ≡ Ok (finding_of f)
+IsToldAs (Err lines_fault.Memory) result = result ≡ Err explain.Memory
+IsToldAs (Err lines_fault.Write) result = result ≡ Err explain.Write
+
+-- the schedule that stands in an input was explained under this name, beside a text that has a system
+pub record ExplainsLines (name text input : List ℕ) (out : Output) (result : Result Finding ExplainFault) : Type 0 where
+  pub outcome : Result (Option LineFinding) ExplainLinesFault
+  pub told : IsToldAs outcome result
+  pub schedule : ExplainsSchedule text name input out.old out.new out.failed outcome
+
+-- a text that has no system was explained under this name, and not the schedule beside it
+pub record ExplainsRefused (name text : List ℕ) (out : Output) (result : Result Finding ExplainFault) : Type 0 where
+  pub refused : HasNoSystem text
+  pub told : ExplainsUnder name text out result
+
+-- a schedule was explained beside a text, or the text if that is refused, each under its own name
+abbrev pub ExplainsBeside : (input schedule : InputName) → (text lines : List ℕ) → Output → Result Finding ExplainFault
+    → Type 0
+ExplainsBeside input schedule text lines out result =
+    ExplainsLines (shown_name schedule) text lines out result ⊎ ExplainsRefused (shown_name input) text out result
+
+-- the schedule in an input of at most so many bytes was explained
+abbrev pub ExplainsGiven : (input schedule : InputName) → List ℕ → ℕ → Option (List ℕ) → Output
+    → Result Finding ExplainFault → Type 0
+ExplainsGiven input schedule text limit other out result =
+    (lines : List ℕ) × IsTextWithin limit other lines × ExplainsBeside input schedule text lines out result
+
+-- the text of an input was explained, or the schedule in another
+abbrev pub ExplainsGivenIn : InputName → Option InputName → Option (List ℕ) → Output → Result Finding ExplainFault
+    → Type 0
+ExplainsGivenIn input None given out result =
+    (text : List ℕ) × IsTextOf (given_by input given) text × ExplainsUnder (shown_name input) text out result
+ExplainsGivenIn input (Some s) given out result =
     (text : List ℕ) × IsTextOf (given_by input given) text
-    × Explains (shown_name input) text out.old out.new out.failed result × IfOk result (λ f. IsFindingOn f text)
+    × ExplainsGiven input s text (schedule_limit s) (given_behind input s given) out result
 
--- what `explain` read and told, if it ends so: nothing if the input gives no text
-abbrev pub IsExplained : InputName → Option (List ℕ) → Output → Result Finding TextFault → Type 0
-IsExplained input given out (Ok x) = ExplainsText input given out (Ok x)
-IsExplained input given out (Err (Input f)) = IsFaultOfInput input given (Input f) × IsKept out
-IsExplained input given out (Err (Unread name)) = IsFaultOfInput input given (Unread name) × IsKept out
-IsExplained input given out (Err (Run f)) = ⊥
-IsExplained input given out (Err (Explain f)) = ExplainsText input given out (Err f)
-IsExplained input given out (Err (Trace f)) = ⊥
-IsExplained input given out (Err (Check f)) = ⊥
-IsExplained input given out (Err (Print f)) = ⊥
+abbrev pub ExplainsInputs : ExplainChoice → Option (List ℕ) → Output → Result Finding ExplainFault → Type 0
+ExplainsInputs c given out result = ExplainsGivenIn c.input c.schedule given out result
 
--- the run of the text of the input was shown; its verdicts are asked for if the status is to tell of them
+-- why an input of `explain` gives no text
+abbrev pub IsFaultOfExplainInputs : ExplainChoice → Option (List ℕ) → TextFault → Type 0
+IsFaultOfExplainInputs c given f =
+    IsFaultOfInput c.input given f ⊎ IsFaultOfSchedule c.schedule (behind c.input given) f
+
+-- a text was explained, if that ends so
+abbrev pub IsExplainedAlone : InputName → List ℕ → Output → Result Finding TextFault → Type 0
+IsExplainedAlone input text out (Ok x) = ExplainsUnder (shown_name input) text out (Ok x)
+IsExplainedAlone input text out (Err (Input f)) = ⊥
+IsExplainedAlone input text out (Err (Unread name)) = ⊥
+IsExplainedAlone input text out (Err (Run f)) = ⊥
+IsExplainedAlone input text out (Err (Explain f)) = ExplainsUnder (shown_name input) text out (Err f)
+IsExplainedAlone input text out (Err (Trace f)) = ⊥
+IsExplainedAlone input text out (Err (Replay f)) = ⊥
+IsExplainedAlone input text out (Err (Check f)) = ⊥
+IsExplainedAlone input text out (Err (Print f)) = ⊥
+
+-- a schedule was explained beside a text, if that ends so: nothing went out if its input gives none
+abbrev pub IsExplainedBy : (input schedule : InputName) → List ℕ → Option (List ℕ) → Output → Result Finding TextFault
+    → Type 0
+IsExplainedBy input schedule text given out (Ok x) =
+    ExplainsGiven input schedule text (schedule_limit schedule) (given_by schedule given) out (Ok x)
+IsExplainedBy input schedule text given out (Err (Input f)) = IsFaultOfLong schedule given (Input f) × IsKept out
+IsExplainedBy input schedule text given out (Err (Unread name)) =
+    IsFaultOfLong schedule given (Unread name) × IsKept out
+IsExplainedBy input schedule text given out (Err (Run f)) = ⊥
+IsExplainedBy input schedule text given out (Err (Explain f)) =
+    ExplainsGiven input schedule text (schedule_limit schedule) (given_by schedule given) out (Err f)
+IsExplainedBy input schedule text given out (Err (Trace f)) = ⊥
+IsExplainedBy input schedule text given out (Err (Replay f)) = ⊥
+IsExplainedBy input schedule text given out (Err (Check f)) = ⊥
+IsExplainedBy input schedule text given out (Err (Print f)) = ⊥
+
+-- what `explain` read and told, if it ends so: nothing if an input gives no text
+abbrev pub IsExplained : ExplainChoice → Option (List ℕ) → Output → Result Finding TextFault → Type 0
+IsExplained c given out (Ok x) = ExplainsInputs c given out (Ok x)
+IsExplained c given out (Err (Input f)) = IsFaultOfExplainInputs c given (Input f) × IsKept out
+IsExplained c given out (Err (Unread name)) = IsFaultOfExplainInputs c given (Unread name) × IsKept out
+IsExplained c given out (Err (Run f)) = ⊥
+IsExplained c given out (Err (Explain f)) = ExplainsInputs c given out (Err f)
+IsExplained c given out (Err (Trace f)) = ⊥
+IsExplained c given out (Err (Replay f)) = ⊥
+IsExplained c given out (Err (Check f)) = ⊥
+IsExplained c given out (Err (Print f)) = ⊥
+
+-- the run of the text of the input was shown, with its verdicts
 abbrev pub TracesText : TraceChoice → Option (List ℕ) → Output → Result Findings TraceFault → Type 0
 TracesText t given out result =
     (text : List ℕ) × IsTextOf (given_by t.input given) text
-    × ShowsRun text t.options t.format t.fail_on.invariant out.old out.new out.failed result
+    × ShowsRun text t.options t.format out.old out.new out.failed result
     × IfErr result (λ f. IsRefusalOfTrace f text)
 
 -- what `trace` read and showed, if it ends so: nothing if the input gives no text
@@ -219,27 +309,27 @@ IsTraced t given out (Err (Unread name)) = IsFaultOfInput t.input given (Unread 
 IsTraced t given out (Err (Run f)) = ⊥
 IsTraced t given out (Err (Explain f)) = ⊥
 IsTraced t given out (Err (Trace f)) = TracesText t given out (Err f)
+IsTraced t given out (Err (Replay f)) = ⊥
 IsTraced t given out (Err (Check f)) = ⊥
 IsTraced t given out (Err (Print f)) = ⊥
 
--- lines were replayed in a text's system, and the replay was shown, with the verdicts along it or without; a fault is
--- one of them, and no fault of the text that is always found is passed over
-abbrev pub ReplaysIn : Format → Bool → (text lines : List ℕ) → Output → Result Findings ReplayFault → Type 0
-ReplaysIn format judged text lines out result =
-    ShowsReplay text lines format judged out.old out.new out.failed result
+-- lines were replayed in a text's system, and the replay was shown, with the verdicts along it; a fault is one of them,
+-- and no fault of the text that is always found is passed over
+abbrev pub ReplaysIn : Format → (text lines : List ℕ) → Output → Result Findings ReplayFault → Type 0
+ReplaysIn format text lines out result =
+    ShowsReplay text lines format out.old out.new out.failed result
     × IfErr result (λ f. IsFaultOfReplay f text lines) × IsExactForReplay result text
 
 -- the schedule in an input of at most so many bytes was replayed
-abbrev pub ReplaysGiven : Format → Bool → List ℕ → ℕ → Option (List ℕ) → Output → Result Findings ReplayFault → Type 0
-ReplaysGiven format judged text limit other out result =
-    (lines : List ℕ) × IsTextWithin limit other lines × ReplaysIn format judged text (schedule_part lines) out result
+abbrev pub ReplaysGiven : Format → List ℕ → ℕ → Option (List ℕ) → Output → Result Findings ReplayFault → Type 0
+ReplaysGiven format text limit other out result =
+    (lines : List ℕ) × IsTextWithin limit other lines × ReplaysIn format text (schedule_part lines) out result
 
--- the schedule in one input was replayed in the system of the text in another; the verdicts along it are asked for if
--- the status is to tell of them
+-- the schedule in one input was replayed in the system of the text in another
 abbrev pub ReplaysSchedule : ReplayChoice → Option (List ℕ) → Output → Result Findings ReplayFault → Type 0
 ReplaysSchedule r given out result =
     (text : List ℕ) × IsTextOf (given_by r.input given) text
-    × ReplaysGiven r.format r.fail_on.invariant text (schedule_limit r.schedule)
+    × ReplaysGiven r.format text (schedule_limit r.schedule)
     (given_behind r.input r.schedule given) out result
 
 -- why an input of a replay gives no text
@@ -248,21 +338,20 @@ IsFaultOfReplayInputs r given f =
     IsFaultOfInput r.input given f ⊎ IsFaultOfLong r.schedule (behind r.input given) f
 
 -- a schedule was replayed in a text's system, if that ends so: nothing went out if its input gives no text
-abbrev pub IsReplayedBy : Format → Bool → List ℕ → InputName → Option (List ℕ) → Output → Result Findings TextFault
+abbrev pub IsReplayedBy : Format → List ℕ → InputName → Option (List ℕ) → Output → Result Findings TextFault
     → Type 0
-IsReplayedBy format judged text schedule given out (Ok found) =
-    ReplaysGiven format judged text (schedule_limit schedule) (given_by schedule given) out (Ok found)
-IsReplayedBy format judged text schedule given out (Err (Input f)) = IsFaultOfLong schedule given (Input f) × IsKept out
-IsReplayedBy format judged text schedule given out (Err (Unread name)) =
+IsReplayedBy format text schedule given out (Ok found) =
+    ReplaysGiven format text (schedule_limit schedule) (given_by schedule given) out (Ok found)
+IsReplayedBy format text schedule given out (Err (Input f)) = IsFaultOfLong schedule given (Input f) × IsKept out
+IsReplayedBy format text schedule given out (Err (Unread name)) =
     IsFaultOfLong schedule given (Unread name) × IsKept out
-IsReplayedBy format judged text schedule given out (Err (Run f)) = ⊥
-IsReplayedBy format judged text schedule given out (Err (Explain f)) = ⊥
-IsReplayedBy format judged text schedule given out (Err (Trace (trace.Run f))) = ⊥
-IsReplayedBy format judged text schedule given out (Err (Trace trace.Differs)) =
-    ReplaysGiven format judged text (schedule_limit schedule) (given_by schedule given) out (Err replay.Differs)
-IsReplayedBy format judged text schedule given out (Err (Check f)) =
-    ReplaysGiven format judged text (schedule_limit schedule) (given_by schedule given) out (Err (replay.Check f))
-IsReplayedBy format judged text schedule given out (Err (Print f)) = ⊥
+IsReplayedBy format text schedule given out (Err (Run f)) = ⊥
+IsReplayedBy format text schedule given out (Err (Explain f)) = ⊥
+IsReplayedBy format text schedule given out (Err (Trace f)) = ⊥
+IsReplayedBy format text schedule given out (Err (Replay f)) =
+    ReplaysGiven format text (schedule_limit schedule) (given_by schedule given) out (Err f)
+IsReplayedBy format text schedule given out (Err (Check f)) = ⊥
+IsReplayedBy format text schedule given out (Err (Print f)) = ⊥
 
 -- what `trace` read and showed of a schedule, if it ends so: nothing if an input gives no text
 abbrev pub IsReplayed : ReplayChoice → Option (List ℕ) → Output → Result Findings TextFault → Type 0
@@ -271,9 +360,9 @@ IsReplayed r given out (Err (Input f)) = IsFaultOfReplayInputs r given (Input f)
 IsReplayed r given out (Err (Unread name)) = IsFaultOfReplayInputs r given (Unread name) × IsKept out
 IsReplayed r given out (Err (Run f)) = ⊥
 IsReplayed r given out (Err (Explain f)) = ⊥
-IsReplayed r given out (Err (Trace (trace.Run f))) = ⊥
-IsReplayed r given out (Err (Trace trace.Differs)) = ReplaysSchedule r given out (Err replay.Differs)
-IsReplayed r given out (Err (Check f)) = ReplaysSchedule r given out (Err (replay.Check f))
+IsReplayed r given out (Err (Trace f)) = ⊥
+IsReplayed r given out (Err (Replay f)) = ReplaysSchedule r given out (Err f)
+IsReplayed r given out (Err (Check f)) = ⊥
 IsReplayed r given out (Err (Print f)) = ⊥
 
 -- the status of what was done and has these findings: 4 if there is one at which the status is to tell
@@ -322,8 +411,8 @@ abbrev pub EndsAs : Subcommand → Option (List ℕ) → Output → Output → �
 EndsAs (subcommand.Run r) given out err status =
     (outcome : Result Findings TextFault) × Executes r given out outcome
     × Tells (found_status r.fail_on) err status outcome
-EndsAs (subcommand.Explain input) given out err status =
-    (outcome : Result Finding TextFault) × IsExplained input given out outcome
+EndsAs (subcommand.Explain c) given out err status =
+    (outcome : Result Finding TextFault) × IsExplained c given out outcome
     × Tells explained_status err status outcome
 EndsAs (subcommand.Trace t) given out err status =
     (outcome : Result Findings TextFault) × IsTraced t given out outcome
@@ -382,19 +471,29 @@ IsFound words given out =
     Reports words given out 4
     ⊎ (Traces words given out 4 ⊎ (Replays words given out 4 ⊎ Judges words given out 4))
 
+-- lines were refused with this fault, whether the reason is told with it or stands in what was shown
+abbrev pub IsLinesRefusal : ReplayFault → Type 0
+IsLinesRefusal (replay.Check (check.Front f)) = ⊥
+IsLinesRefusal (replay.Check (check.Check f)) = ⊥
+IsLinesRefusal (replay.Check (check.Schedule f)) = ⊤
+IsLinesRefusal (replay.Check check.Memory) = ⊥
+IsLinesRefusal (replay.Check check.Write) = ⊥
+IsLinesRefusal (replay.NoStep f why) = ⊤
+IsLinesRefusal replay.Differs = ⊥
+
 -- a schedule was refused, and what is before the refused line or the refused step was shown
 abbrev pub ReplaysRefused : List Text → Option (List ℕ) → Output → Type 0
 ReplaysRefused words given out =
     (r : ReplayChoice) × Chooses words (subcommand.Replay r)
-    × ((f : ScheduleFault) × ReplaysSchedule r given out (Err (replay.Check (Schedule f))))
+    × ((f : ReplayFault) × IsLinesRefusal f × ReplaysSchedule r given out (Err f))
 
--- an explanation went out, and it says so of the text
+-- an explanation went out, and it says so of the text, or of the schedule
 abbrev pub ExplainsAs : Finding → List Text → Option (List ℕ) → Output → Type 0
 ExplainsAs f words given out =
-    (input : InputName) × Chooses words (subcommand.Explain input) × ExplainsText input given out (Ok f)
+    (c : ExplainChoice) × Chooses words (subcommand.Explain c) × ExplainsInputs c given out (Ok f)
 
 -- what status 0 says: the report of the text that was read went out, and it has no finding at which the status is to
--- tell; or nothing is wrong with the text; or its run was shown, or the replay of the schedule that was read, and has
+-- tell; or nothing is wrong with the text or the schedule; or its run was shown, or the replay of the schedule that was read, and has
 -- no such finding; or that schedule is an execution of the text's system, and has none; or the text went out laid out
 -- anew; or a text for which the words ask
 abbrev pub IsDone : List Text → Option (List ℕ) → Output → Type 0

@@ -29,6 +29,7 @@ use Rattle.ioa_command.specs.declared.choice.InputName.{InputName}
 use Rattle.ioa_command.specs.declared.choice.InputName.TheVariants.{Standard, File}
 use Rattle.ioa_command.specs.declared.choice.RunChoice.{RunChoice}
 use Rattle.ioa_command.specs.declared.choice.TraceChoice.{TraceChoice}
+use Rattle.ioa_command.specs.declared.choice.ExplainChoice.{ExplainChoice}
 use Rattle.ioa_command.specs.declared.choice.ReplayChoice.{ReplayChoice}
 use Rattle.ioa_command.specs.declared.choice.CheckChoice.{CheckChoice}
 use Rattle.ioa_command.specs.declared.choice.Subcommand.{Subcommand}
@@ -66,9 +67,10 @@ run_app =
     attempts_rule)
     fail_on_rule
 
--- `explain FILE`
+-- `explain FILE SCHEDULE`
 abbrev pub explain_app : App
-explain_app = with_rule (new_app (codes "explain")) (word_rule (codes "file"))
+explain_app =
+    with_rule (with_rule (new_app (codes "explain")) (word_rule (codes "file"))) (word_rule (codes "schedule"))
 
 -- `--format NAME`
 abbrev pub format_rule : Rule
@@ -224,7 +226,7 @@ pub record IsReplayOf (rows : List Row) (r : ReplayChoice) : Type 0 where
 -- what the matches of `trace` choose: a run or a replay
 abbrev pub IsOfTrace : List Row → Subcommand → Type 0
 IsOfTrace rows (Run r) = ⊥
-IsOfTrace rows (Explain input) = ⊥
+IsOfTrace rows (Explain c) = ⊥
 IsOfTrace rows (Trace t) = IsTraceOf rows t
 IsOfTrace rows (Replay r) = IsReplayOf rows r
 IsOfTrace rows (Check c) = ⊥
@@ -247,12 +249,17 @@ pub record IsCheckOf (rows : List Row) (c : CheckChoice) : Type 0 where
   pub schedule : option_map name_of c.schedule ≡ schedule_given rows
   pub apart : ReadsApart c.input c.schedule
 
+-- what the matches of `explain` choose
+pub record IsExplainOf (rows : List Row) (c : ExplainChoice) : Type 0 where
+  pub input : name_of c.input ≡ input_given (first_of (codes "file") rows)
+  pub schedule : option_map name_of c.schedule ≡ schedule_given rows
+  pub apart : ReadsApart c.input c.schedule
+
 -- the subcommand that the matches name, with what it is asked to do
 abbrev pub IsChosenBy : Option (Text × List Row) → Subcommand → Type 0
 IsChosenBy None choice = ⊥
 IsChosenBy (Some (name, rows)) (Run r) = (name ≡ codes "run") × IsRunOf rows r
-IsChosenBy (Some (name, rows)) (Explain input) =
-    (name ≡ codes "explain") × (name_of input ≡ input_given (first_of (codes "file") rows))
+IsChosenBy (Some (name, rows)) (Explain c) = (name ≡ codes "explain") × IsExplainOf rows c
 IsChosenBy (Some (name, rows)) (Trace t) = (name ≡ codes "trace") × IsTraceOf rows t
 IsChosenBy (Some (name, rows)) (Replay r) = (name ≡ codes "trace") × IsReplayOf rows r
 IsChosenBy (Some (name, rows)) (Check c) = (name ≡ codes "check") × IsCheckOf rows c

@@ -11,6 +11,7 @@ use Rattle.ioa_pipeline.specs.declared.tracing.TraceFault.{TraceFault}
 use Rattle.ioa_pipeline.specs.declared.tracing.TraceFault.TheVariants as trace
 use Rattle.ioa_pipeline.specs.declared.replaying.ReplayFault.{ReplayFault}
 use Rattle.ioa_pipeline.specs.declared.replaying.ReplayFault.TheVariants as replay
+use Rattle.ioa_pipeline.specs.Replaying.{replay_fault_text}
 use Rattle.ioa_pipeline.specs.WholeRun.{run_fault_text}
 use Rattle.ioa_pipeline.specs.ScheduleChecks.{check_schedule_fault_text}
 use Rattle.ioa_pipeline.specs.declared.printing.PrintFault.{PrintFault}
@@ -20,7 +21,7 @@ use Rattle.ioa_pipeline.specs.declared.whole_run.RunFault.TheVariants as run
 use Rattle.ioa_pipeline.specs.declared.schedule_check.CheckScheduleFault.{CheckScheduleFault}
 use Rattle.ioa_pipeline.specs.declared.schedule_check.CheckScheduleFault.TheVariants as check
 use Rattle.ioa_command.specs.declared.faults.TextFault.{TextFault}
-use Rattle.ioa_command.specs.declared.faults.TextFault.TheVariants.{Input, Unread, Run, Explain, Trace, Check, Print}
+use Rattle.ioa_command.specs.declared.faults.TextFault.TheVariants.{Input, Unread, Run, Explain, Trace, Replay, Check, Print}
 
 -- 1 if the input is refused, and 3 if memory or reading failed
 abbrev pub input_status : InputFault → ℕ
@@ -90,10 +91,17 @@ abbrev pub trace_line : TraceFault → List ℕ
 trace_line (trace.Run f) = run_line f
 trace_line trace.Differs = codes "refused 51 Differs"
 
--- why a schedule was not shown whole: as `check` tells it, or as `trace` does if what is told is not the schedule
-abbrev pub fault_of_replay : ReplayFault → TextFault
-fault_of_replay (replay.Check f) = Check f
-fault_of_replay replay.Differs = Trace trace.Differs
+-- that of a check, also if the refusal has its reason with it; and 3 if the steps that are told are not those taken
+abbrev pub replay_status : ReplayFault → ℕ
+replay_status (replay.Check f) = check_status f
+replay_status (replay.NoStep f why) = 1
+replay_status replay.Differs = 3
+
+-- the line of a schedule that was not shown to its end
+abbrev pub replay_line : ReplayFault → List ℕ
+replay_line (replay.Check f) = check_line f
+replay_line (replay.NoStep f why) = codes "refused " ++ replay_fault_text (replay.NoStep f why)
+replay_line replay.Differs = codes "refused " ++ replay_fault_text replay.Differs
 
 -- the line if it was not told what is wrong with a text: a write has `failed`, want of memory is `refused`
 abbrev pub explain_line : ExplainFault → List ℕ
@@ -111,6 +119,7 @@ fault_status (Unread name) = 3
 fault_status (Run f) = run_status f
 fault_status (Explain f) = 3
 fault_status (Trace f) = trace_status f
+fault_status (Replay f) = replay_status f
 fault_status (Check f) = check_status f
 fault_status (Print f) = print_status f
 
@@ -120,5 +129,6 @@ fault_line (Unread name) = unread_line (string_bytes name)
 fault_line (Run f) = run_line f
 fault_line (Explain f) = explain_line f
 fault_line (Trace f) = trace_line f
+fault_line (Replay f) = replay_line f
 fault_line (Check f) = check_line f
 fault_line (Print f) = print_line f

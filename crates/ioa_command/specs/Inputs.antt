@@ -53,6 +53,7 @@ IsFaultOfFile limit name (fault.Unread of) = string_bytes of ≡ name
 IsFaultOfFile limit name (fault.Run f) = ⊥
 IsFaultOfFile limit name (fault.Explain f) = ⊥
 IsFaultOfFile limit name (fault.Trace f) = ⊥
+IsFaultOfFile limit name (fault.Replay f) = ⊥
 IsFaultOfFile limit name (fault.Check f) = ⊥
 IsFaultOfFile limit name (fault.Print f) = ⊥
 
@@ -63,6 +64,7 @@ IsUnread name (fault.Unread of) = string_bytes of ≡ name
 IsUnread name (fault.Run f) = ⊥
 IsUnread name (fault.Explain f) = ⊥
 IsUnread name (fault.Trace f) = ⊥
+IsUnread name (fault.Replay f) = ⊥
 IsUnread name (fault.Check f) = ⊥
 IsUnread name (fault.Print f) = ⊥
 
@@ -73,6 +75,7 @@ IsFaultOfStandard given (fault.Unread of) = ⊥
 IsFaultOfStandard given (fault.Run f) = ⊥
 IsFaultOfStandard given (fault.Explain f) = ⊥
 IsFaultOfStandard given (fault.Trace f) = ⊥
+IsFaultOfStandard given (fault.Replay f) = ⊥
 IsFaultOfStandard given (fault.Check f) = ⊥
 IsFaultOfStandard given (fault.Print f) = ⊥
 

@@ -39,6 +39,15 @@ pub struct TraceChoice {
     pub fail_on: Findings,
 }
 
+/// What `explain` is asked to do.
+#[derive(Debug, Drop)]
+pub struct ExplainChoice {
+    /// Where the text is read.
+    pub input: InputName,
+    /// Where the schedule is read that is to be explained beside the text, if there is one.
+    pub schedule: Option<InputName>,
+}
+
 /// What `trace` is asked to do with a schedule.
 #[derive(Debug, Drop)]
 pub struct ReplayChoice {
@@ -70,8 +79,8 @@ pub struct CheckChoice {
 pub enum Subcommand {
     /// `run`: run the system of a text, and write the report.
     Run(RunChoice),
-    /// `explain`: tell people what is wrong with a text.
-    Explain(InputName),
+    /// `explain`: tell people what is wrong with a text, or with a schedule beside it.
+    Explain(ExplainChoice),
     /// `trace`: run the system of a text, and show the run step by step, or as a picture.
     Trace(TraceChoice),
     /// `trace` with a schedule: replay it, and show the replay.

@@ -19,15 +19,18 @@ ghost use Rattle.ioa_explain.specs.declared.explaining.Finding.TheVariants.{Refu
 ghost use Rattle.ioa_command.specs.Faults.{fault_line, fault_status};
 ghost use Rattle.ioa_command.specs.CommandLine.{words_status};
 
-use crate::choice::{CheckChoice, InputName, ReplayChoice, RunChoice, Subcommand, TraceChoice};
+use crate::choice::{
+    CheckChoice, ExplainChoice, InputName, ReplayChoice, RunChoice, Subcommand, TraceChoice,
+};
+use crate::explaining::explain_from;
 use crate::fail_on::meet;
 use crate::faults::{FAILED, REFUSED, TextFault, fault_line, fault_status};
-use crate::inputs::{schedule_of, shown_name, text_of};
+use crate::inputs::{schedule_of, text_of};
 use crate::replaying::replay_from;
 use crate::words::options;
 use clap::Error;
 use clap::error::ErrorKind;
-use ioa_explain::{Finding, explain};
+use ioa_explain::Finding;
 use ioa_pipeline::{Findings, Gate, Judging, judge_text, print_text, run_system, trace_text};
 use ioa_streams::{Out, parts, put_all, schedule_part};
 use std::alloc::{AllocError, Global};
@@ -47,7 +50,7 @@ const FOUND: u8 = 4;
 
 /// The program (profile): `words` are those of the command line, its own name first, and choose what it does. `run`
 /// reads a text, runs its system by workers in this runtime, and writes the report. `explain` reads a text and tells
-/// what is wrong with it. `trace` reads a text, runs its system by one worker, and shows the run; or it reads a
+/// what is wrong with it, or with a schedule that it reads too. `trace` reads a text, runs its system by one worker, and shows the run; or it reads a
 /// schedule too, and shows its replay in place of a run, up to what is no step. `check` reads a text and a schedule,
 /// and says whether the schedule is an execution, with the verdicts along it if the words ask for them. `print` reads a
 /// text and writes it laid out anew. A text is read from the file that is named, else from `reader`. Returns the
@@ -128,7 +131,7 @@ fn obey<R: Files + Threads + Wait + Sync, G: Gate + Sync, I: Read, O: Out, E: Ou
 {
     match subcommand {
         Subcommand::Run(choice) => run_text(rt, alloc, choice, gate, reader, out, err),
-        Subcommand::Explain(input) => explain_text(rt, alloc, input, reader, out, err),
+        Subcommand::Explain(choice) => explain_inputs(rt, alloc, choice, reader, out, err),
         Subcommand::Trace(choice) => show_run(rt, alloc, choice, reader, out, err),
         Subcommand::Replay(choice) => show_replay(rt, alloc, choice, reader, out, err),
         Subcommand::Check(choice) => check_lines(rt, alloc, choice, reader, out, err),
@@ -167,29 +170,29 @@ fn found_status(fail_on: &Findings, found: &Findings) -> u8
     if meet(fail_on, found) { FOUND } else { DONE }
 }
 
-/// Tells what is wrong with a text, and of a fault.
-fn explain_text<R: Files, I: Read, O: Out, E: Out>(
+/// Tells what is wrong with a text or a schedule, and of a fault.
+fn explain_inputs<R: Files, I: Read, O: Out, E: Out>(
     rt: &R,
     alloc: Global,
-    input: &InputName,
+    choice: &ExplainChoice,
     reader: &mut I,
     out: &mut O,
     err: &mut E,
 ) -> u8
     requires out { O.failed out.old ≡ false }
     requires err { E.failed err.old ≡ false }
-    ensures { (outcome : Result Finding TextFault) × IsExplained input.now (I.remaining reader.old)
+    ensures { (outcome : Result Finding TextFault) × IsExplained choice.now (I.remaining reader.old)
         (output (O.bytes out.old) (O.bytes out.new) (O.failed out.new)) outcome
         × Tells explained_status (output (E.bytes err.old) (E.bytes err.new) (E.failed err.new)) result outcome }
 {
-    let outcome = explain_from(rt, alloc, input, reader, out);
+    let outcome = explain_from(rt, alloc, choice, reader, out);
     match &outcome {
         Ok(finding) => explained_status(*finding),
         Err(fault) => tell_fault(alloc, fault, err),
     }
 }
 
-/// The status of what is told of a text.
+/// The status of what is told of a text or a schedule.
 fn explained_status(finding: Finding) -> u8
     ensures { result ≡ explained_status finding }
 {
@@ -328,26 +331,6 @@ fn execute<R: Files + Threads + Wait + Sync, G: Gate + Sync, I: Read, O: Out>(
     }
 }
 
-/// Reads a text and tells what is wrong with it.
-#[tactic(auto, using(crate::proofs::Readings::explain_rules))]
-fn explain_from<R: Files, I: Read, O: Out>(
-    rt: &R,
-    alloc: Global,
-    input: &InputName,
-    reader: &mut I,
-    out: &mut O,
-) -> Result<Finding, TextFault>
-    requires { O.failed out.old ≡ false }
-    ensures { IsExplained input.now (I.remaining reader.old)
-        (output (O.bytes out.old) (O.bytes out.new) (O.failed out.new)) result }
-{
-    let text = text_of(rt, alloc, input, reader)?;
-    match explain(alloc, shown_name(input), text.as_str(), out) {
-        Ok(finding) => Ok(finding),
-        Err(fault) => Err(TextFault::Explain(fault)),
-    }
-}
-
 /// Reads a text and shows its run.
 #[tactic(auto, using(crate::proofs::Readings::trace_rules))]
 fn trace_from<R: Files + Threads + Wait + Sync, I: Read, O: Out>(
@@ -363,16 +346,7 @@ fn trace_from<R: Files + Threads + Wait + Sync, I: Read, O: Out>(
 {
     let text = text_of(rt, alloc, &choice.input, reader)?;
     let format = choice.format;
-    let is_judged = choice.fail_on.invariant;
-    match trace_text(
-        rt,
-        alloc,
-        text.as_str(),
-        &choice.options,
-        format,
-        is_judged,
-        out,
-    ) {
+    match trace_text(rt, alloc, text.as_str(), &choice.options, format, out) {
         Ok(found) => Ok(found),
         Err(fault) => Err(TextFault::Trace(fault)),
     }

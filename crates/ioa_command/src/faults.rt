@@ -28,20 +28,12 @@ pub(crate) enum TextFault {
     Explain(ExplainFault),
     /// The run of the text was not shown.
     Trace(TraceFault),
+    /// The schedule was not shown to its end.
+    Replay(ReplayFault),
     /// The schedule is not said to be an execution.
     Check(CheckScheduleFault),
     /// The text was not laid out anew.
     Print(PrintFault),
-}
-
-/// The fault of a schedule that was not shown whole.
-pub(crate) fn fault_of_replay(fault: ReplayFault) -> TextFault
-    ensures { result ≡ spec.fault_of_replay fault }
-{
-    match fault {
-        ReplayFault::Check(fault) => TextFault::Check(fault),
-        ReplayFault::Differs => TextFault::Trace(TraceFault::Differs),
-    }
 }
 
 /// The status of a fault.
@@ -54,6 +46,7 @@ pub(crate) fn fault_status(fault: &TextFault) -> u8
         TextFault::Run(fault) => run_status(fault),
         TextFault::Explain(_) => FAILED,
         TextFault::Trace(fault) => trace_status(fault),
+        TextFault::Replay(fault) => replay_status(fault),
         TextFault::Check(fault) => check_status(fault),
         TextFault::Print(fault) => print_status(fault),
     }
@@ -89,6 +82,17 @@ fn trace_status(fault: &TraceFault) -> u8
     }
 }
 
+/// The status if the schedule was not shown to its end.
+fn replay_status(fault: &ReplayFault) -> u8
+    ensures { result ≡ spec.replay_status fault.now }
+{
+    match fault {
+        ReplayFault::Check(fault) => check_status(fault),
+        ReplayFault::NoStep(_, _) => REFUSED,
+        ReplayFault::Differs => FAILED,
+    }
+}
+
 /// The status if the schedule is not said to be an execution.
 fn check_status(fault: &CheckScheduleFault) -> u8
     ensures { result ≡ spec.check_status fault.now }
@@ -121,6 +125,7 @@ pub(crate) fn fault_line(alloc: Global, fault: &TextFault) -> Result<String, All
         TextFault::Run(fault) => run_line(alloc, fault),
         TextFault::Explain(fault) => explain_line(alloc, fault),
         TextFault::Trace(fault) => trace_line(alloc, fault),
+        TextFault::Replay(fault) => replay_line(alloc, fault),
         TextFault::Check(fault) => check_line(alloc, fault),
         TextFault::Print(fault) => print_line(alloc, fault),
     }
@@ -174,6 +179,18 @@ fn trace_line(alloc: Global, fault: &TraceFault) -> Result<String, AllocError>
     match fault {
         TraceFault::Run(fault) => run_line(alloc, fault),
         TraceFault::Differs => format!(in alloc; "refused 51 Differs\n"),
+    }
+}
+
+/// The line of a schedule that was not shown to its end.
+fn replay_line(alloc: Global, fault: &ReplayFault) -> Result<String, AllocError>
+    ensures { IfOk result (λ s. string_bytes s ≡ spec.replay_line fault.now ++ codes "\n") }
+{
+    match fault {
+        ReplayFault::Check(fault) => check_line(alloc, fault),
+        ReplayFault::NoStep(_, _) | ReplayFault::Differs => {
+            format!(in alloc; "refused {fault}\n")
+        }
     }
 }
 

@@ -7,6 +7,7 @@
 
 mod choice;
 mod command_line;
+mod explaining;
 mod fail_on;
 mod faults;
 mod formats;
@@ -14,7 +15,9 @@ mod inputs;
 mod replaying;
 mod words;
 
-pub use choice::{CheckChoice, InputName, ReplayChoice, RunChoice, Subcommand, TraceChoice};
+pub use choice::{
+    CheckChoice, ExplainChoice, InputName, ReplayChoice, RunChoice, Subcommand, TraceChoice,
+};
 pub use command_line::{BAD_WORDS, command};
 pub use faults::FAILED;
 pub use ioa_pipeline::Gate;

@@ -5,7 +5,7 @@ ghost use Rattle.ioa_streams.specs.ScheduleParts.{schedule_part};
 ghost use Rattle.ioa_command.specs.Command.{IsReplayed, IsReplayedBy, ReplaysIn, output};
 
 use crate::choice::{InputName, ReplayChoice};
-use crate::faults::{TextFault, fault_of_replay};
+use crate::faults::TextFault;
 use crate::inputs::{schedule_of, text_of};
 use ioa_pipeline::{Findings, Format, ReplayFault, trace_schedule};
 use ioa_streams::{Out, schedule_part};
@@ -28,14 +28,12 @@ pub(crate) fn replay_from<R: Files, I: Read, O: Out>(
 {
     let text = text_of(rt, alloc, &choice.input, reader)?;
     let format = choice.format;
-    let is_judged = choice.fail_on.invariant;
     replay_apart(
         rt,
         alloc,
         text.as_str(),
         &choice.schedule,
         format,
-        is_judged,
         reader,
         out,
     )
@@ -49,18 +47,17 @@ fn replay_apart<R: Files, I: Read, O: Out>(
     text: &str,
     schedule: &InputName,
     format: Format,
-    is_judged: bool,
     reader: &mut I,
     out: &mut O,
 ) -> Result<Findings, TextFault>
     requires { O.failed out.old ≡ false }
-    ensures { IsReplayedBy format is_judged text.now schedule.now (I.remaining reader.old)
+    ensures { IsReplayedBy format text.now schedule.now (I.remaining reader.old)
         (output (O.bytes out.old) (O.bytes out.new) (O.failed out.new)) result }
 {
     let lines = schedule_of(rt, alloc, schedule, reader)?;
-    match replay_part(alloc, text, lines.as_str(), format, is_judged, out) {
+    match replay_part(alloc, text, lines.as_str(), format, out) {
         Ok(found) => Ok(found),
-        Err(fault) => Err(fault_of_replay(fault)),
+        Err(fault) => Err(TextFault::Replay(fault)),
     }
 }
 
@@ -70,15 +67,14 @@ fn replay_part<O: Out>(
     text: &str,
     input: &str,
     format: Format,
-    is_judged: bool,
     out: &mut O,
 ) -> Result<Findings, ReplayFault>
     requires { O.failed out.old ≡ false }
-    ensures { ReplaysIn format is_judged text.now (schedule_part input.now)
+    ensures { ReplaysIn format text.now (schedule_part input.now)
         (output (O.bytes out.old) (O.bytes out.new) (O.failed out.new)) result }
 {
     let lines = schedule_part(input);
-    replay_lines(alloc, text, lines, format, is_judged, out)
+    replay_lines(alloc, text, lines, format, out)
 }
 
 /// Shows the replay of lines in a text's system.
@@ -87,12 +83,11 @@ fn replay_lines<O: Out>(
     text: &str,
     lines: &str,
     format: Format,
-    is_judged: bool,
     out: &mut O,
 ) -> Result<Findings, ReplayFault>
     requires { O.failed out.old ≡ false }
-    ensures { ReplaysIn format is_judged text.now lines.now
+    ensures { ReplaysIn format text.now lines.now
         (output (O.bytes out.old) (O.bytes out.new) (O.failed out.new)) result }
 {
-    trace_schedule(alloc, text, lines, format, is_judged, out)
+    trace_schedule(alloc, text, lines, format, out)
 }

@@ -11,14 +11,14 @@ ghost use Rattle.ioa_command.specs.CommandLine.{number_rule, word_rule, workers_
 ghost use Rattle.ioa_command.specs.CommandLine.{check_app, explain_app, print_app, run_app, trace_app, program_app};
 ghost use Rattle.ioa_command.specs.CommandLine.{fail_on_rule, format_rule, verdicts_rule};
 ghost use Rattle.ioa_command.specs.CommandLine.{Chooses, IsCheckOf, IsChosenBy, IsErrorOf, IsNumberOf, IsRunOf};
-ghost use Rattle.ioa_command.specs.CommandLine.{IsOfTrace, IsReplayOf, IsTraceOf};
+ghost use Rattle.ioa_command.specs.CommandLine.{IsExplainOf, IsOfTrace, IsReplayOf, IsTraceOf};
 ghost use Rattle.ioa_command.specs.CommandLine as spec;
 ghost use Rattle.ioa_command.specs.CommandLine.{AreLimitsOf, AreNumbersOf, name_of};
 ghost use Rattle.ioa_command.specs.Choices.{Finds, Settles};
 
 use crate::choice::{
-    CheckChoice, ChoiceFault, InputName, ReplayChoice, RunChoice, Subcommand, TraceChoice,
-    WordsFault,
+    CheckChoice, ChoiceFault, ExplainChoice, InputName, ReplayChoice, RunChoice, Subcommand,
+    TraceChoice, WordsFault,
 };
 use crate::fail_on::{findings_named, no_findings};
 use crate::formats::format_named;
@@ -68,8 +68,12 @@ const EXPLAIN_EXAMPLE: &str = "\
 It shows the line and the part of it that is refused, what the refusal asks for, and what could stand
 there. The number is that with which `ioarun run` refuses the text.
 
-Example:
-  ioarun explain examples/refused/missing_colon.ioa";
+If a SCHEDULE is named, a report or lines as `ioarun check` takes them, it shows the line for which that
+refuses the schedule, and why; or what is wrong with the text, if something is.
+
+Examples:
+  ioarun explain examples/refused/missing_colon.ioa
+  ioarun run --workers 4 examples/relay.ioa | ioarun explain examples/relay.ioa -";
 
 /// What is shown at the end of the help of `trace`.
 const TRACE_EXAMPLE: &str = "\
@@ -202,9 +206,10 @@ fn explain<'a>(alloc: Global) -> Result<Command<'a>, AllocError>
     ensures { IfOk result (λ c. (app_of c ≡ explain_app) × ((out-Command c).has_globals ≡ false)) }
 {
     Command::new(alloc, "explain")
-        .about("Tells what is wrong with a text, and where")
+        .about("Tells what is wrong with a text, or with a schedule beside it, and where")
         .after_help(EXPLAIN_EXAMPLE)
-        .arg(file_word(alloc))
+        .arg(file_word(alloc))?
+        .arg(schedule_word(alloc))
 }
 
 /// The subcommand `trace`.
@@ -409,7 +414,7 @@ fn choice_named(
     if name == "run" {
         run_choice(alloc, matches).map(Subcommand::Run)
     } else if name == "explain" {
-        Ok(Subcommand::Explain(input_given(alloc, matches)?))
+        explain_choice(alloc, matches).map(Subcommand::Explain)
     } else if name == "trace" {
         shown_choice(alloc, matches)
     } else if name == "check" {
@@ -437,6 +442,20 @@ fn run_choice(alloc: Global, matches: &ArgMatches<'_>) -> Result<RunChoice, Choi
         options,
         fail_on,
     })
+}
+
+/// What `explain` is asked to do.
+fn explain_choice(alloc: Global, matches: &ArgMatches<'_>) -> Result<ExplainChoice, ChoiceFault>
+    ensures { Settles (IsExplainOf (rows_of (found_of matches.now))) result }
+{
+    let input = input_given(alloc, matches)?;
+    let schedule = schedule_given(alloc, matches)?;
+    match (&input, &schedule) {
+        (InputName::Standard, Some(InputName::Standard)) => {
+            Err(ChoiceFault::Nothing(WordsFault::Twice))
+        }
+        _ => Ok(ExplainChoice { input, schedule }),
+    }
 }
 
 /// The three numbers, if each is there and in its range.

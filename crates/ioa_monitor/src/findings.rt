@@ -18,8 +18,8 @@ pub struct Findings {
     pub invariant: bool,
 }
 
-/// What these endings and these verdicts come to.
-pub(crate) fn findings_of(endings: &[Ending], verdicts: &[Verdict]) -> Findings
+/// What these endings and these verdicts come to. A schedule that is given has no endings.
+pub fn findings_of(endings: &[Ending], verdicts: &[Verdict]) -> Findings
     ensures { result ≡ spec.findings_of endings.now verdicts.now }
 {
     Findings {

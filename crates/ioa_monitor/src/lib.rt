@@ -18,7 +18,8 @@ mod schedule;
 mod traces;
 
 pub use endings::put_ending;
-pub use findings::Findings;
+pub use findings::{Findings, findings_of};
+pub use invariants::put_verdicts;
 pub use ioa_paper::ReportFault;
 pub use ioa_schedule_check::{ScheduleFault, check_schedule, schedule_law};
 pub use ioa_verdicts::{Verdict, verdict_law, verdicts};

@@ -1,13 +1,12 @@
 -- What is said of a schedule with its verdicts.
-use Rattle.std.proofs.Common.{◌≡◌, ℕ, Bool, true, false, List, Option, Some, None, Result, Ok, Err, refl, sym, subst}
-use Rattle.std.specs.Prelude.{IfErr, IfOk}
+use Rattle.std.proofs.Common.{◌≡◌, ℕ, Bool, true, false, List, Option, Some, None, Result, Ok, Err, sym, subst}
+use Rattle.std.specs.Prelude.{IfErr}
 use Rattle.std.specs.Io.KnownBytes.{Appends}
 use Rattle.std.proofs.KnownBytes.{Keeps-refl}
 use Rattle.ioa_streams.specs.Output.{AppendsBeginning}
 use Rattle.ioa_system.specs.Systems.{SystemParts}
 use Rattle.ioa_transitions.specs.Entries.{PlainEntry}
 use Rattle.ioa_monitor.specs.declared.findings.Findings.{Findings}
-use Rattle.ioa_monitor.specs.Findings.{findings_of}
 use Rattle.ioa_monitor.specs.Judged.{judged_text, schedule_findings}
 use Rattle.ioa_schedule_check.specs.declared.fault.ScheduleFault.{ScheduleFault}
 use Rattle.ioa_schedule_check.specs.declared.fault.ScheduleFault.TheVariants as schedule
@@ -19,7 +18,7 @@ use Rattle.ioa_pipeline.specs.declared.schedule_check.CheckScheduleFault.{CheckS
 use Rattle.ioa_pipeline.specs.declared.schedule_check.CheckScheduleFault.TheVariants.{Front, Check, Schedule, Memory, Write}
 use Rattle.ioa_pipeline.specs.Described.{IsDescribed}
 use Rattle.ioa_pipeline.specs.Judging.{SaysGiven, SaysIn, SaysJudged, asked_with}
-use Rattle.ioa_pipeline.specs.ScheduleChecks.{IsExecutionOfText, IsFaultBefore, IsFaultOfCheck}
+use Rattle.ioa_pipeline.specs.ScheduleChecks.{IsFaultBefore, IsFaultOfCheck}
 use Rattle.ioa_pipeline.specs.ScheduleChecks.{SaysExecution, execution_line}
 use Rattle.ioa_pipeline.proofs.Refusals.{before_refused}
 

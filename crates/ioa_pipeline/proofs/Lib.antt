@@ -1,4 +1,5 @@
 -- the lemmas of this crate
+pub mod ExplainedSchedules
 pub mod Judged
 pub mod JudgedSchedules
 pub mod Refusals
@@ -6,4 +7,3 @@ pub mod Replays
 pub mod Reported
 pub mod Shown
 pub mod Tellings
-pub mod Verdicts

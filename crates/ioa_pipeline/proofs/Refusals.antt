@@ -13,7 +13,6 @@ use Rattle.ioa_pipeline.specs.declared.described.SystemFault.TheVariants as syst
 use Rattle.ioa_pipeline.specs.declared.schedule_check.CheckScheduleFault.{CheckScheduleFault}
 use Rattle.ioa_pipeline.specs.declared.schedule_check.CheckScheduleFault.TheVariants as check
 use Rattle.ioa_pipeline.specs.declared.whole_run.RunFault.{RunFault}
-use Rattle.ioa_pipeline.specs.declared.whole_run.RunFault.TheVariants as run
 use Rattle.ioa_pipeline.specs.Described.{IsExactBy, IsFaultOfText}
 use Rattle.ioa_pipeline.specs.WholeRun.{IsEarly, IsExactFor, IsFaultOfWorkers, IsRefusalOf, run_fault_of_finish, run_fault_of_system}
 use Rattle.ioa_system.specs.Systems.{SystemParts}

@@ -2,6 +2,7 @@
 use Rattle.std.proofs.Common.{◌≡◌, ◌∙◌, ℕ, Bool, true, false, if◌then◌else◌, List, [], ◌∷◌, ◌++◌, Option, Some, None}
 use Rattle.std.proofs.Common.{Result, Ok, Err, refl, sym, subst}
 use Rattle.std.specs.Prelude.{OnOk, find}
+use Rattle.std.specs.Io.KnownBytes.{Appends}
 use Rattle.ioa_streams.specs.declared.output.OutFailed.{OutFailed}
 use Rattle.ioa_system.specs.Systems.{SystemParts}
 use Rattle.ioa_record.specs.declared.ending.Ending.{Ending}
@@ -16,12 +17,13 @@ use Rattle.ioa_tell.specs.declared.fault.TellFault.{TellFault}
 use Rattle.ioa_tell.specs.declared.fault.TellFault.TheVariants as tell
 use Rattle.ioa_tell_text.specs.Kept.{is_of, same_passing, why_of}
 use Rattle.ioa_tell_text.specs.Lines.{waiting_text}
-use Rattle.ioa_tell_text.specs.Teller.{PlainTeller, and_other, and_waiting, teller_after}
+use Rattle.ioa_tell_text.specs.Teller.{PlainTeller, and_other, and_waiting, teller_after, teller_ended}
 use Rattle.ioa_tell_text.specs.declared.waiting.Passing.{Passing}
 use Rattle.ioa_tell_text.specs.declared.waiting.Passing.TheVariants.{Idle, Missed}
 use Rattle.ioa_tell_text.specs.declared.waiting.Waiting.{Waiting}
+use Rattle.ioa_verdicts.specs.declared.verdict.Verdict.{Verdict}
 use Rattle.ioa_pipeline.specs.declared.tracing.Format.TheVariants as format
-use Rattle.ioa_pipeline.specs.Tracing.{ShowsLeft, fresh_teller, told_outcome}
+use Rattle.ioa_pipeline.specs.Tracing.{ShowsLeft, begun_teller, told_outcome}
 
 -- what waits goes on the same paper
 waiting_kept : (names : List (List ℕ)) (w : Option Waiting) (paper : PlainPaper) → Continues paper (and_waiting names w paper)
@@ -66,15 +68,20 @@ telling_kept s attempts schedule endings a b (Ok x) h = events_kept (h.events ++
 telling_kept s attempts schedule endings a b (Err f) h = tt
 
 -- a telling that began on a fresh paper, and whose text went out
-pub telling_shown : (s : SystemParts) (attempts : ℕ) (left : Record) (endings : List Ending)
-    (old new : Option (List ℕ)) (failed : Bool) (output : ℕ) (told : PlainTeller) (r : Result (Unit {0}) TellFault)
-    (sent : Result (Unit {0}) OutFailed)
+pub telling_shown : (s : SystemParts) (attempts : ℕ) (left : Record) (endings : List Ending) (vs : List Verdict)
+    (old new : Option (List ℕ)) (failed : Bool) (output : ℕ) (told whole : PlainTeller)
+    (r : Result (Unit {0}) TellFault) (sent : Result (Unit {0}) OutFailed)
     → OnOk r (TellsRun (λ e x y. y ≡ teller_after e x) s attempts left.schedule endings
-    (fresh_teller s.names old output) told)
-    → OnOk r (Ended old new failed told.paper.text sent)
-    → ShowsLeft s attempts left endings format.Text old new failed (told_outcome r sent)
-telling_shown s attempts left endings old new failed output told (Ok x) (Ok y) h g =
-    record { output = output; told = told; tells = h; well = g.0; whole = g.1 }
-telling_shown s attempts left endings old new failed output told (Ok x) (Err f) h g = tt
-telling_shown s attempts left endings old new failed output told (Err tell.Memory) sent h g = tt
-telling_shown s attempts left endings old new failed output told (Err tell.Differs) sent h g = tt
+    (begun_teller s vs old output) told)
+    → OnOk r (whole ≡ teller_ended told) → OnOk r (Ended old new failed whole.paper.text sent)
+    → ShowsLeft s attempts left endings vs format.Text old new failed (told_outcome r sent)
+telling_shown s attempts left endings vs old new failed output told whole (Ok x) (Ok y) h is g = record {
+  output = output;
+  told = told;
+  tells = h;
+  well = g.0;
+  whole = subst (λ (t : PlainTeller). Appends old new t.paper.text) is g.1;
+}
+telling_shown s attempts left endings vs old new failed output told whole (Ok x) (Err f) h is g = tt
+telling_shown s attempts left endings vs old new failed output told whole (Err tell.Memory) sent h is g = tt
+telling_shown s attempts left endings vs old new failed output told whole (Err tell.Differs) sent h is g = tt

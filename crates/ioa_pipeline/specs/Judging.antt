@@ -1,5 +1,5 @@
 -- What is said of a schedule that is given beside a text, with the verdicts on the invariants along it (profile).
-use Rattle.std.specs.Prelude.{◌≡◌, ⊤, ℕ, Bool, true, false, List, [], Option, Some, None, Result, Ok, Err}
+use Rattle.std.specs.Prelude.{◌≡◌, ℕ, Bool, true, false, List, [], Option, Some, None, Result, Ok, Err}
 use Rattle.std.specs.Io.KnownBytes.{Keeps, Appends}
 use Rattle.ioa_system.specs.Systems.{SystemParts}
 use Rattle.ioa_transitions.specs.Entries.{PlainEntry}
@@ -32,11 +32,6 @@ abbrev pub found_by : Judging → SystemParts → List PlainEntry → Findings
 found_by Unasked s entries = findings_of [] []
 found_by Silent s entries = schedule_findings s entries
 found_by Told s entries = schedule_findings s entries
-
--- what they come to if a schedule is shown: nothing is found if they are not asked for
-abbrev pub found_if : Bool → SystemParts → List PlainEntry → Findings
-found_if true s entries = schedule_findings s entries
-found_if false s entries = findings_of [] []
 
 -- if the bytes of the output are known, they grow by what is said of an execution: the line, and behind it the verdicts
 -- if they are told; and what the verdicts come to is returned. If writing failed, they grow by a beginning of that, and

@@ -3,14 +3,13 @@
 ghost use Rattle.std.specs.Prelude.{◌≡◌, false, IfErr, OnOk};
 ghost use Rattle.ioa_show.specs.Shown.{Continues};
 ghost use Rattle.ioa_tell.specs.Told.{TellsRun};
-ghost use Rattle.ioa_tell_text.specs.Teller.{teller_after};
+ghost use Rattle.ioa_tell_text.specs.Teller.{teller_after, teller_ended};
 ghost use Rattle.ioa_pipeline.specs.Tracing as spec;
 ghost use Rattle.ioa_pipeline.specs.Tracing.{IsRefusalOfTrace, ShowsJudged, ShowsLeft, ShowsRun};
 
-use crate::found::found_along;
 use crate::whole_run::{RunFault, run_of};
 use ioa_boards::Open;
-use ioa_monitor::{Findings, ReportFault};
+use ioa_monitor::{Findings, ReportFault, Verdict, findings_of, verdicts};
 use ioa_paper::room;
 use ioa_record::{Ending, Options, Record};
 use ioa_show::{itf, json, mermaid, svg};
@@ -73,11 +72,11 @@ impl From<RunFault> for TraceFault {
     }
 }
 
-/// Runs the system that a text describes, with these options, and shows the run in a format. With the options of one
-/// worker it is the run that [`run_system`](crate::run_system) reports. Returns what the verdicts on the invariants
-/// along its schedule come to, if they are asked for; else none is evaluated, and nothing is found. What goes out is
-/// the same. Memory for the verdicts is asked for before anything is shown. `Memory` (3) may come when a beginning went
-/// out; but of a picture, as SVG or for Mermaid, nothing did then.
+/// Runs the system that a text describes, with these options, and shows the run in a format, with the verdicts on the
+/// invariants along its schedule. With the options of one worker it is the run that
+/// [`run_system`](crate::run_system) reports. Returns what the verdicts come to. Memory for them is asked for before
+/// anything is shown. `Memory` (3) may come when a beginning went out; but of a picture, as SVG or for Mermaid, nothing
+/// did then.
 #[tactic(auto, using(crate::proofs::Shown::runs))]
 pub fn trace_text<R: Threads + Wait + Sync, O: Out>(
     rt: &R,
@@ -85,21 +84,18 @@ pub fn trace_text<R: Threads + Wait + Sync, O: Out>(
     text: &str,
     options: &Options,
     format: Format,
-    is_judged: bool,
     out: &mut O,
 ) -> Result<Findings, TraceFault>
     requires { O.failed out.old ≡ false }
-    ensures shown { ShowsRun text.now options.now format is_judged
+    ensures shown { ShowsRun text.now options.now format
         (O.bytes out.old) (O.bytes out.new) (O.failed out.new) result }
     ensures refused { IfErr result (λ f. IsRefusalOfTrace f text.now) }
 {
     let (system, record, endings) = run_of(rt, alloc, text, options, &Open)?;
-    show_judged(
-        alloc, &system, options, &record, &endings, format, is_judged, out,
-    )
+    show_judged(alloc, &system, options, &record, &endings, format, out)
 }
 
-/// Shows a run that left this record and these endings, and returns what its verdicts come to, if they are asked for.
+/// Shows a run that left this record and these endings, with its verdicts, and returns what they come to.
 #[tactic(auto, using(crate::proofs::Shown::judged_rules))]
 fn show_judged<O: Out>(
     alloc: Global,
@@ -108,23 +104,27 @@ fn show_judged<O: Out>(
     run_record: &Record,
     endings: &[Ending],
     format: Format,
-    is_judged: bool,
     out: &mut O,
 ) -> Result<Findings, TraceFault>
     requires { O.failed out.old ≡ false }
-    ensures { ShowsJudged system.now options.now.attempts run_record.now endings.now format is_judged
+    ensures { ShowsJudged system.now options.now.attempts run_record.now endings.now format
         (O.bytes out.old) (O.bytes out.new) (O.failed out.new) result }
 {
-    match found_along(alloc, system, &run_record.schedule, is_judged) {
-        Ok(found) => match show(alloc, system, options, run_record, endings, format, out) {
-            Ok(()) => Ok(found),
-            Err(fault) => Err(fault),
-        },
+    match verdicts(alloc, system, &run_record.schedule) {
+        Ok(verdicts) => {
+            let verdicts = verdicts.as_slice();
+            match show(
+                alloc, system, options, run_record, endings, verdicts, format, out,
+            ) {
+                Ok(()) => Ok(findings_of(&[], verdicts)),
+                Err(fault) => Err(fault),
+            }
+        }
         Err(AllocError) => Err(TraceFault::Run(RunFault::Memory)),
     }
 }
 
-/// Shows a run that left this record and these endings.
+/// Shows a run that left this record and these endings, with these verdicts.
 #[tactic(auto, using(crate::proofs::Shown::pictures))]
 fn show<O: Out>(
     alloc: Global,
@@ -132,18 +132,19 @@ fn show<O: Out>(
     options: &Options,
     run_record: &Record,
     endings: &[Ending],
+    verdicts: &[Verdict],
     format: Format,
     out: &mut O,
 ) -> Result<(), TraceFault>
     requires { O.failed out.old ≡ false }
-    ensures { ShowsLeft system.now options.now.attempts run_record.now endings.now format
+    ensures { ShowsLeft system.now options.now.attempts run_record.now endings.now verdicts.now format
         (O.bytes out.old) (O.bytes out.new) (O.failed out.new) result }
 {
     match format {
-        Format::Text => tell_as_text(alloc, system, options, run_record, endings, out),
-        Format::Json => shown(json(alloc, system, &run_record.schedule, endings, out)),
-        Format::States => shown(itf(alloc, system, &run_record.schedule, endings, out)),
-        Format::Diagram => shown(svg(alloc, system, &run_record.schedule, endings, out)),
+        Format::Text => tell_as_text(alloc, system, options, run_record, endings, verdicts, out),
+        Format::Json => shown(json(alloc, system, &run_record.schedule, endings, verdicts, out)),
+        Format::States => shown(itf(alloc, system, &run_record.schedule, endings, verdicts, out)),
+        Format::Diagram => shown(svg(alloc, system, &run_record.schedule, endings, verdicts, out)),
         Format::Sequence => shown(mermaid(alloc, system, &run_record.schedule, endings, out)),
     }
 }
@@ -159,7 +160,7 @@ fn shown(outcome: Result<(), ReportFault>) -> Result<(), TraceFault>
     }
 }
 
-/// Tells a run as text.
+/// Tells a run as text, with these verdicts.
 #[tactic(auto, using(crate::proofs::Tellings::telling_shown))]
 fn tell_as_text<O: Out>(
     alloc: Global,
@@ -167,18 +168,28 @@ fn tell_as_text<O: Out>(
     options: &Options,
     run_record: &Record,
     endings: &[Ending],
+    verdicts: &[Verdict],
     out: &mut O,
 ) -> Result<(), TraceFault>
     requires { O.failed out.old ≡ false }
-    ensures { ShowsLeft system.now options.now.attempts run_record.now endings.now Format.Text
+    ensures { ShowsLeft system.now options.now.attempts run_record.now endings.now verdicts.now Format.Text
         (O.bytes out.old) (O.bytes out.new) (O.failed out.new) result }
 {
     let room = match room(alloc) {
         Ok(room) => room,
         Err(AllocError) => return Err(TraceFault::Run(RunFault::Memory)),
     };
-    let mut teller = TextTeller::new(alloc, system.names(), out, room);
+    let mut teller = TextTeller::new(
+        alloc,
+        system.names(),
+        system.invariants(),
+        verdicts,
+        out,
+        room,
+    );
+    teller.begin();
     let told = tell_on(alloc, system, options, run_record, endings, &mut teller);
+    end_if_told(&told, &mut teller);
     let (out, sent) = teller.finish();
     // No effect at run time. The proof reads what `out` holds from the reference that comes back.
     let _ = &*out;
@@ -200,6 +211,17 @@ fn tell_on<O: Out>(
     ensures kept { OnOk result (Continues teller.old.paper teller.new.paper) }
 {
     tell(alloc, system, options, run_record, endings, teller)
+}
+
+/// Writes the verdicts behind what was told, if all of it was.
+pub(crate) fn end_if_told<O: Out>(told: &Result<(), TellFault>, teller: &mut TextTeller<'_, O>)
+    ensures ended { OnOk told.now (teller.new ≡ teller_ended teller.old) }
+    ensures kept { Continues teller.old.paper teller.new.paper }
+{
+    match told {
+        Ok(()) => teller.end(),
+        Err(_) => {}
+    }
 }
 
 /// What a telling came to.

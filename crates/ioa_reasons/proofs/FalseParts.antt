@@ -31,7 +31,7 @@ if_it t u e true h g = let same : t ≡ u = cc in subst (λ (x : CheckedTerm). a
 if_it t u e false h g = absurd (cc)
 
 -- of two that may be there, what is taken is the one or the other
-either : {A : Type 0} (x y : Option A) (u : A) → option_or x y ≡ Some u → (x ≡ Some u) ⊎ (y ≡ Some u)
+pub either : {A : Type 0} (x y : Option A) (u : A) → option_or x y ≡ Some u → (x ≡ Some u) ⊎ (y ≡ Some u)
 either (Some t) y u h = inl h
 either None y u h = inr h
 

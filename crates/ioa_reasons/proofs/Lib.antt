@@ -1,4 +1,5 @@
 -- the lemmas of this crate
+pub mod ConstsFound
 pub mod FalseParts
 pub mod FaultParts
 pub mod FaultyTerms

@@ -5,6 +5,7 @@ pub mod Found
 pub mod FoundFaults
 pub mod FoundUnfit
 pub mod Misfits
+pub mod OtherConsts
 pub mod PlainReasons
 pub mod Reasons
 pub mod Stopping

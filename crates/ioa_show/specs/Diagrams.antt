@@ -3,7 +3,6 @@ use Rattle.std.specs.Prelude.{ℕ, Bool, List, ◌++◌, codes, length, Option}
 use Rattle.ioa_system.specs.Systems.{SystemParts}
 use Rattle.ioa_transitions.specs.Entries.{PlainEntry}
 use Rattle.ioa_record.specs.declared.ending.Ending.{Ending}
-use Rattle.ioa_verdicts.specs.Verdicts.{verdicts_of}
 use Rattle.ioa_verdicts.specs.declared.verdict.Verdict.{Verdict}
 use Rattle.ioa_show.specs.Arrows.{arrows}
 use Rattle.ioa_show.specs.Frames.{frame_of}
@@ -29,7 +28,6 @@ drawing f s ps ws entries =
 unfoldable pub diagram_text : SystemParts → List (Option ℕ) → List Verdict → Bool → List PlainEntry → List ℕ
 diagram_text s ps ws short entries = drawing (frame_of s (length entries) (length ws) short) s ps ws entries
 
--- the same with the partners of its actions, the verdicts on its schedule, and whether memory ran out, if the run left
--- these endings
-abbrev pub diagram_of : SystemParts → List PlainEntry → List Ending → List ℕ
-diagram_of s entries endings = diagram_text s (partners_of entries) (verdicts_of s entries) (ran_out endings) entries
+-- the same with the partners of its actions, these verdicts, and whether memory ran out, if the run left these endings
+abbrev pub diagram_of : SystemParts → List PlainEntry → List Ending → List Verdict → List ℕ
+diagram_of s entries endings ws = diagram_text s (partners_of entries) ws (ran_out endings) entries

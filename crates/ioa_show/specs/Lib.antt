@@ -1,13 +1,18 @@
 -- what the contracts of this crate and of those above it cite
 pub mod Arrows
+pub mod Behind
 pub mod Diagrams
 pub mod Frames
 pub mod Json
+pub mod Judged
 pub mod Marks
 pub mod Matching
 pub mod Memory
+pub mod Receivers
 pub mod Sequences
 pub mod Shown
+pub mod Sorts
+pub mod Start
 pub mod States
 pub mod Steps
 pub mod Tagged

@@ -1,5 +1,6 @@
--- The steps of a run as lines of JSON (form): one line an action, in the order of the schedule.
-use Rattle.std.specs.Prelude.{ℕ, ℤ, ◌+◌, Bool, true, false, List, [], ◌∷◌, ◌++◌, codes, map, length}
+-- The steps of a run as lines of JSON (form): one line an action, in the order of the schedule, between the line of the
+-- start and those of the endings and the verdicts.
+use Rattle.std.specs.Prelude.{ℕ, ◌+◌, Bool, true, false, List, [], ◌∷◌, ◌++◌, codes, map, length}
 use Rattle.std.specs.Prelude.{Option, Some, None}
 use Rattle.std.specs.Fmt.{decimal, signed_decimal}
 use Rattle.ioa_values.specs.Data.{Data}
@@ -18,8 +19,14 @@ use Rattle.ioa_compose.specs.Participants.{participants_of}
 use Rattle.ioa_compose.specs.Start.{start}
 use Rattle.ioa_compose.specs.declared.configuration.Conf.{Conf}
 use Rattle.ioa_compose.specs.declared.configuration.Conf.TheVariants.{Node, Queue}
+use Rattle.ioa_record.specs.Endings.{ending_text}
 use Rattle.ioa_record.specs.declared.ending.Ending.{Ending}
+use Rattle.ioa_system.specs.Invariants.{InvariantParts}
+use Rattle.ioa_verdicts.specs.declared.verdict.Verdict.{Verdict}
+use Rattle.ioa_show.specs.Behind.{between}
+use Rattle.ioa_show.specs.Judged.{verdict_lines}
 use Rattle.ioa_show.specs.Memory.{ran_out}
+use Rattle.ioa_show.specs.Start.{start_line}
 use Rattle.ioa_show.specs.States.{if_step}
 use Rattle.ioa_show.specs.Tagged.{tagged}
 use Rattle.ioa_show.specs.declared.memory.TheConstants.{RAN_OUT}
@@ -33,11 +40,6 @@ unfoldable pub change_told : List (List ℕ) → List ℕ → Data → Data → 
 change_told names x v w =
     codes "{\"new\":" ++ (tagged names w ++ (codes ",\"old\":" ++ (tagged names v
     ++ (codes ",\"variable\":\"" ++ (x ++ codes "\"}")))))
-
--- what stands between a change and those in front of it, if there are such
-abbrev pub between : Bool → List ℕ
-between true = codes ", "
-between false = []
 
 -- a change behind others if there are such; nothing if the two values are the same
 abbrev pub change_unless : Bool → List (List ℕ) → Bool → List ℕ → Data → Data → List ℕ
@@ -156,6 +158,27 @@ abbrev pub last_line : Bool → List ℕ
 last_line true = last_words
 last_line false = []
 
--- the steps of a system along a schedule from its start, and whether memory ran out in a run that left these endings
-unfoldable pub steps_text : SystemParts → List PlainEntry → List Ending → List ℕ
-steps_text s entries endings = step_lines s.names 0 entries (start s) ++ last_line (ran_out endings)
+-- the line of the ending of a number
+unfoldable pub ending_line : ℕ → Ending → List ℕ
+ending_line i e =
+    codes "{\"kind\":\"ending\",\"node\":" ++ (decimal i ++ (codes ",\"text\":\"" ++ (ending_text e ++ codes "\"}\n")))
+
+-- the lines of endings, counted from i
+abbrev pub ending_lines : ℕ → List Ending → List ℕ
+ending_lines i [] = []
+ending_lines i (e ∷ more) = ending_line i e ++ ending_lines (i + 1) more
+
+-- what stands behind the steps: the endings, the verdicts on these invariants, and whether memory ran out
+abbrev pub closing : List InvariantParts → List Ending → List Verdict → List ℕ
+closing vs endings ws = ending_lines 0 endings ++ (verdict_lines vs ws ++ last_line (ran_out endings))
+
+-- all lines from the start on, if it has these configurations
+abbrev pub lines_from : List (List ℕ) → List InvariantParts → List PlainEntry → List Ending → List Verdict → List Conf
+    → List ℕ
+lines_from names vs entries endings ws cs =
+    start_line names cs ++ (step_lines names 0 entries cs ++ closing vs endings ws)
+
+-- the start of a system and its steps along a schedule, the endings that a run left, the verdicts on the system's
+-- invariants, and whether memory ran out by these endings
+unfoldable pub steps_text : SystemParts → List PlainEntry → List Ending → List Verdict → List ℕ
+steps_text s entries endings ws = lines_from s.names s.invariants entries endings ws (start s)

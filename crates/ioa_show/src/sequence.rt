@@ -30,7 +30,8 @@ pub const MANY: usize = 1_000;
 /// Puts out the sequence diagram of a schedule (Lynch 8.1; form: profile) for Mermaid: a participant for each node, a
 /// message at its receive with the positions of its send and its receive, so that no two arrows cross, and a note for
 /// each other action, for each message that was not received, and for what the effect of a send or a receive chose. If
-/// memory ran out in the run, by these endings, a last note says so. A schedule that no run left has no endings.
+/// memory ran out in the run, by these endings, a last note says so. A schedule that no run left has no endings. Of
+/// invariants it says nothing.
 pub fn mermaid<O: Out>(
     alloc: Global,
     system: &System,

@@ -19,7 +19,7 @@ use ioa_record::Ending;
 use ioa_streams::{Out, OutFailed};
 use ioa_system::System;
 use ioa_transitions::Entry;
-use ioa_verdicts::{Verdict, verdicts};
+use ioa_verdicts::Verdict;
 use std::alloc::Global;
 
 /// What a diagram begins with, before its measures.
@@ -48,21 +48,22 @@ text { font: 11px monospace; fill: #333 }
 
 /// Puts out the space-time diagram of a schedule (Lynch 8.1; form: profile) as SVG: a line for each node, its actions
 /// as dots from left to right in their order, an arrow for each message from its send to its receive, a red dashed line
-/// for one that was not received, and a red upright where an invariant is first not true. Each dot has its line of the
-/// report as its title, and each arrow has those of its send and its receive. If memory ran out in the run, by these
-/// endings, a last line of text says so. A schedule that no run left has no endings.
+/// for one that was not received, and a red upright where an invariant is first not true, by these verdicts; the first
+/// is that of the first invariant. Each dot has its line of the report as its title, and each arrow has those of its
+/// send and its receive. If memory ran out in the run, by these endings, a last line of text says so. A schedule that
+/// no run left has no endings.
 pub fn svg<O: Out>(
     alloc: Global,
     system: &System,
     schedule: &RawLog<Entry>,
     endings: &[Ending],
+    verdicts: &[Verdict],
     out: &mut O,
 ) -> Result<(), ReportFault>
     requires { O.failed out.old ≡ false }
-    ensures { PutsWhole (diagram_of system.now schedule.now endings.now)
+    ensures { PutsWhole (diagram_of system.now schedule.now endings.now verdicts.now)
         (O.bytes out.old) (O.bytes out.new) (O.failed out.new) result }
 {
-    let verdicts = verdicts(alloc, system, schedule)?;
     let partners = partners(alloc, schedule)?;
     let entries = entries_of(alloc, schedule)?;
     let room = room(alloc)?;
@@ -73,7 +74,7 @@ pub fn svg<O: Out>(
         &entries,
         schedule,
         &partners,
-        &verdicts,
+        verdicts,
         ran_out(endings),
     );
     let (out, outcome) = paper.finish();

@@ -2,18 +2,21 @@
 
 ghost use Rattle.std.specs.Prelude.{◌≡◌, ◌++◌, codes, map};
 ghost use Rattle.std.specs.List.{flat_map};
-ghost use Rattle.std.specs.Option.{option_map};
+ghost use Rattle.std.specs.Option.{option_copied, option_map};
 ghost use Rattle.ioa_source.specs.TextView.{variable_of};
 ghost use Rattle.ioa_values.specs.Data.{Data};
 ghost use Rattle.ioa_paper.specs.Papers.{and_text};
-ghost use Rattle.ioa_show.specs.Json.{json};
+ghost use Rattle.ioa_show.specs.Json.{shaped_json};
 ghost use Rattle.ioa_show.specs.States.{channel_key, conf_fields, conf_keys, queue_field, queue_key};
 ghost use Rattle.ioa_show.specs.States.{variable_fields, variable_key, variable_keys, waiting};
 
-use crate::state_values::{put_json, put_sequence};
+use crate::finding::taken_shape;
+use crate::shaped_values::{put_sequence_of, put_shaped};
+use crate::state_values::put_sequence;
 use ioa_actions::Component;
 use ioa_channels::Queue;
 use ioa_compose::Conf;
+use ioa_course::Course;
 use ioa_paper::Paper;
 use ioa_source::Variable;
 use ioa_streams::Out;
@@ -93,18 +96,18 @@ fn put_channel_key<O: Out>(paper: &mut Paper<'_, O>, from: i64, to: i64)
     paper.put(")\"");
 }
 
-/// Writes all variables and channels with what they hold, each behind a comma.
-pub fn put_confs<O: Out>(paper: &mut Paper<'_, O>, names: &Names, confs: &[Conf])
-    ensures { paper.new ≡ and_text paper.old (flat_map (conf_fields names.now) confs.now) }
+/// Writes all variables and channels among some components with what they hold, each behind a comma.
+pub fn put_confs<O: Out>(paper: &mut Paper<'_, O>, names: &Names, course: &Course, confs: &[Conf])
+    ensures { paper.new ≡ and_text paper.old (flat_map (conf_fields names.now course.now) confs.now) }
 {
     for conf in confs {
-        put_conf(paper, names, conf);
+        put_conf(paper, names, course, conf);
     }
 }
 
 /// Writes what a component has.
-fn put_conf<O: Out>(paper: &mut Paper<'_, O>, names: &Names, conf: &Conf)
-    ensures { paper.new ≡ and_text paper.old (conf_fields names.now conf.now) }
+fn put_conf<O: Out>(paper: &mut Paper<'_, O>, names: &Names, course: &Course, conf: &Conf)
+    ensures { paper.new ≡ and_text paper.old (conf_fields names.now course.now conf.now) }
 {
     match conf {
         Conf::Node(node) => {
@@ -112,7 +115,7 @@ fn put_conf<O: Out>(paper: &mut Paper<'_, O>, names: &Names, conf: &Conf)
             let variables = node.program().automaton().variables();
             put_variables(paper, names, node.node(), values, variables)
         }
-        Conf::Queue(queue) => put_queue(paper, names, queue),
+        Conf::Queue(queue) => put_queue(paper, names, course, queue),
     }
 }
 
@@ -131,7 +134,8 @@ fn put_variables<O: Out>(
         let Some(variable) = variables.get(position) else {
             return;
         };
-        put_variable(paper, names, node, variable.declared.name.as_str(), value);
+        let (name, shape) = (variable.declared.name.as_str(), &variable.declared.shape);
+        put_variable(paper, names, node, name, shape, value);
     }
 }
 
@@ -141,49 +145,63 @@ fn put_variable<O: Out>(
     names: &Names,
     node: i64,
     name: &str,
+    shape: &Shape,
     value: &Value,
 )
     ensures { paper.new ≡ and_text paper.old
-        (variable_key name.now node ++ (codes ":" ++ json names.now value.now)) }
+        (variable_key name.now node ++ (codes ":" ++ shaped_json names.now shape.now value.now)) }
 {
     put_variable_key(paper, name, node);
     paper.put(":");
-    put_json(paper, names, value);
+    put_shaped(paper, names, value, shape);
 }
 
 /// Writes what waits on a channel; nothing for a script.
-fn put_queue<O: Out>(paper: &mut Paper<'_, O>, names: &Names, queue: &Queue)
-    ensures { paper.new ≡ and_text paper.old (queue_field names.now queue.now.component queue.now.items) }
+fn put_queue<O: Out>(paper: &mut Paper<'_, O>, names: &Names, course: &Course, queue: &Queue)
+    ensures { paper.new ≡ and_text paper.old
+        (queue_field names.now course.now queue.now.component queue.now.items) }
 {
     match queue.component() {
         Component::Node(_) => {}
-        Component::Channel { from, to } => put_channel(paper, names, from, to, queue.messages()),
+        Component::Channel { from, to } => {
+            let shape = taken_shape(course, to);
+            put_channel(paper, names, from, to, shape, queue.messages())
+        }
         Component::Script(_) => {}
     }
 }
 
-/// Writes a channel with what waits on it.
+/// Writes a channel with what waits on it, by the shape of its messages.
 fn put_channel<O: Out>(
     paper: &mut Paper<'_, O>,
     names: &Names,
     from: i64,
     to: i64,
+    shape: Option<&Shape>,
     messages: Option<&Sequence>,
 )
     ensures { paper.new ≡ and_text paper.old
-        (channel_key from to ++ (codes ":" ++ waiting names.now (option_map (λ m. m.now) messages.entry))) }
+        (channel_key from to ++ (codes ":"
+        ++ waiting names.now (option_copied shape.entry) (option_map (λ m. m.now) messages.entry))) }
 {
     put_channel_key(paper, from, to);
     paper.put(":");
-    put_waiting(paper, names, messages);
+    put_waiting(paper, names, shape, messages);
 }
 
-/// Writes messages, first to last.
-fn put_waiting<O: Out>(paper: &mut Paper<'_, O>, names: &Names, messages: Option<&Sequence>)
-    ensures { paper.new ≡ and_text paper.old (waiting names.now (option_map (λ m. m.now) messages.entry)) }
+/// Writes messages, first to last, by their shape.
+fn put_waiting<O: Out>(
+    paper: &mut Paper<'_, O>,
+    names: &Names,
+    shape: Option<&Shape>,
+    messages: Option<&Sequence>,
+)
+    ensures { paper.new ≡ and_text paper.old
+        (waiting names.now (option_copied shape.entry) (option_map (λ m. m.now) messages.entry)) }
 {
-    match messages {
-        Some(messages) => put_sequence(paper, names, messages),
-        None => paper.put("[]"),
+    match (messages, shape) {
+        (None, _) => paper.put("[]"),
+        (Some(messages), None) => put_sequence(paper, names, messages),
+        (Some(messages), Some(shape)) => put_sequence_of(paper, names, messages, shape),
     }
 }

@@ -20,7 +20,7 @@ pub fn put_json<O: Out>(paper: &mut Paper<'_, O>, names: &Names, value: &Value)
         ValueForm::Number(n) => put_integer(paper, *n),
         ValueForm::Truth(b) => put_truth(paper, *b),
         ValueForm::Constant(index) => put_constant(paper, names, *index),
-        ValueForm::Tuple(parts) => put_enclosed(paper, names, "{\"#tup\":[", parts),
+        ValueForm::Tuple(parts) => put_tuple(paper, names, parts),
         ValueForm::Sequence(items) => put_sequence(paper, names, items),
         ValueForm::Set(members) => put_set(paper, names, members),
         ValueForm::Map(entries) => put_map(paper, names, entries),
@@ -61,14 +61,14 @@ fn put_name<O: Out>(paper: &mut Paper<'_, O>, names: &Names, index: usize)
     }
 }
 
-/// Writes values as a list in an object that says what it is.
+/// Writes a tuple.
 #[cycle(writing)]
-fn put_enclosed<O: Out>(paper: &mut Paper<'_, O>, names: &Names, start: &str, values: &Vec<Value>)
+pub fn put_tuple<O: Out>(paper: &mut Paper<'_, O>, names: &Names, parts: &Vec<Value>)
     ensures { paper.new ≡ and_text paper.old
-        (start.now ++ with_commas (jsons names.now (items_of values.now.items)) ++ codes "]}") }
+        (codes "{\"#tup\":[" ++ with_commas (jsons names.now (items_of parts.now.items)) ++ codes "]}") }
 {
-    paper.put(start);
-    put_values(paper, names, values);
+    paper.put("{\"#tup\":[");
+    put_values(paper, names, parts);
     paper.put("]}");
 }
 

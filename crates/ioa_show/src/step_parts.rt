@@ -1,20 +1,21 @@
 //! The parts of the line of a step.
 
-ghost use Rattle.std.specs.Prelude.{◌≡◌, ◌++◌, ◌∷◌, [], codes, false, map, slice_get};
+ghost use Rattle.std.specs.Prelude.{◌≡◌, ◌++◌, ◌∷◌, [], codes, false, map};
 ghost use Rattle.std.specs.Fmt.{decimal, signed_decimal};
 ghost use Rattle.std.specs.Option.{option_copied};
 ghost use Rattle.ioa_actions.specs.ActionParts.{action_arguments};
-ghost use Rattle.ioa_compose.specs.Composition.{find_conf};
 ghost use Rattle.ioa_compose.specs.Participants.{participants_of};
 ghost use Rattle.ioa_source.specs.TextView.{variable_of};
 ghost use Rattle.ioa_values.specs.Data.{number};
 ghost use Rattle.ioa_values.specs.DataOrder.{same};
 ghost use Rattle.ioa_paper.specs.Papers.{and_text};
-ghost use Rattle.ioa_show.specs.Steps.{behind_then, between, change_told, change_unless, changes_behind, changes_of};
+ghost use Rattle.ioa_show.specs.Steps.{behind_then, change_told, change_unless, changes_behind, changes_of};
 ghost use Rattle.ioa_show.specs.Steps.{chosen_told, conf_changes, conf_length, queue_among, queue_name, queue_told};
 ghost use Rattle.ioa_show.specs.Steps.{values_told};
 ghost use Rattle.ioa_show.specs.Steps as spec;
 
+use crate::behind::put_between;
+use crate::finding::conf_of;
 use crate::step_values::put_tagged;
 use ioa_actions::{Action, Component};
 use ioa_compose::{Conf, Parties, participants};
@@ -133,15 +134,6 @@ fn put_changed<O: Out>(
     true
 }
 
-/// Writes what stands in front of a change.
-fn put_between<O: Out>(paper: &mut Paper<'_, O>, behind: bool)
-    ensures { paper.new ≡ and_text paper.old (between behind) }
-{
-    if behind {
-        paper.put(", ");
-    }
-}
-
 /// Writes a variable with its new and its old value.
 fn put_change<O: Out>(paper: &mut Paper<'_, O>, names: &Names, name: &str, old: &Value, new: &Value)
     ensures { paper.new ≡ and_text paper.old (change_told names.now name.now old.now new.now) }
@@ -176,24 +168,6 @@ pub fn put_queue<O: Out>(paper: &mut Paper<'_, O>, course: &Course, action: &Act
         Parties::One(_) => {}
         Parties::Two(queue, _) => put_length(paper, queue, length_of(conf_of(course, queue))),
     }
-}
-
-/// The configuration of a component, if there is one.
-#[tactic(auto, using(ioa_verdicts::proofs::Found::found_at, ioa_verdicts::proofs::Found::found_nowhere))]
-pub fn conf_of(course: &Course, component: Component) -> Option<&Conf>
-    ensures { option_copied result ≡ find_conf component course.now }
-{
-    match course.slot_of(component) {
-        Some(slot) => conf_at(course.confs(), slot),
-        None => None,
-    }
-}
-
-/// The configuration in a slot, if there is one.
-fn conf_at(confs: &[Conf], slot: usize) -> Option<&Conf>
-    ensures { option_copied result ≡ slice_get confs.now slot }
-{
-    confs.get(slot)
 }
 
 /// How many items a queue has; none if there is no such queue.
@@ -237,8 +211,8 @@ fn put_name<O: Out>(paper: &mut Paper<'_, O>, component: Component)
     }
 }
 
-/// Writes a channel.
-fn put_channel<O: Out>(paper: &mut Paper<'_, O>, from: i64, to: i64)
+/// Writes which channel it is.
+pub fn put_channel<O: Out>(paper: &mut Paper<'_, O>, from: i64, to: i64)
     ensures { paper.new ≡ and_text paper.old
         (codes "{\"channel\":[" ++ (signed_decimal from ++ (codes ", " ++ (signed_decimal to ++ codes "]")))) }
 {

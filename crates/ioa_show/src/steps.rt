@@ -8,12 +8,16 @@ ghost use Rattle.ioa_compose.specs.Start.{start};
 ghost use Rattle.ioa_paper.specs.Papers.{and_text};
 ghost use Rattle.ioa_show.specs.Shown.{Continues, HasBeginning, PutsText};
 ghost use Rattle.ioa_show.specs.States.{Steps};
-ghost use Rattle.ioa_show.specs.Steps.{done_told, end_told, head_told, last_line, last_words, line_told, place_told};
-ghost use Rattle.ioa_show.specs.Steps.{step_line, step_lines, steps_text, values_of};
+ghost use Rattle.ioa_show.specs.Steps.{closing, done_told, end_told, head_told, last_line, last_words, line_told};
+ghost use Rattle.ioa_show.specs.Steps.{lines_from, place_told, step_line, step_lines, steps_text, values_of};
 
+use crate::endings::put_endings;
+use crate::finding::conf_of;
+use crate::judged::put_verdicts;
 use crate::memory::{RAN_OUT, ran_out};
 use crate::outcome::outcome_of;
-use crate::step_parts::{conf_of, put_arguments, put_changes, put_chosen, put_queue};
+use crate::start::put_start;
+use crate::step_parts::{put_arguments, put_changes, put_chosen, put_queue};
 use ioa_actions::{Action, Component, StepFault};
 use ioa_compose::Conf;
 use ioa_course::Course;
@@ -21,38 +25,50 @@ use ioa_paper::{Paper, ReportFault, put_entry, room};
 use ioa_rawlog::RawLog;
 use ioa_record::Ending;
 use ioa_streams::Out;
-use ioa_system::System;
+use ioa_system::{CheckedInvariant, System};
 use ioa_transitions::Entry;
 use ioa_values::{Names, Value, copies};
+use ioa_verdicts::Verdict;
 use std::alloc::{AllocError, Global};
 
-/// Puts out the steps of a schedule as JSON (form: profile), a line each: the action with its arguments, its node, its
-/// number and its text, which variables of the node changed, what the effect chose, if it chose something, and the
-/// queue that took part with its new length. Behind an entry that is no step there is nothing. If memory ran out in the
-/// run, by these endings, a last line says so. A schedule that no run left has no endings. `Memory` (3) can come when a
-/// beginning is out already.
+/// Puts out a run as JSON (form: profile), an object a line. The first line is the start: the queues, and the variables
+/// of all nodes with their sorts and values. Then comes a line for each action of the schedule: the action with its
+/// arguments, its node, its number and its text, which variables of the node changed, what the effect chose, if it
+/// chose something, and the queue that took part with its new length. Behind an entry that is no step there is no such
+/// line. Then come a line for each ending and a line for each invariant with its verdict. If memory ran out in the run,
+/// by these endings, a last line says so. A schedule that no run left has no endings. The verdicts are shown as they
+/// are given, the first with the first invariant. `Memory` (3) can come when a beginning is out already.
 pub fn json<O: Out>(
     alloc: Global,
     system: &System,
     schedule: &RawLog<Entry>,
     endings: &[Ending],
+    verdicts: &[Verdict],
     out: &mut O,
 ) -> Result<(), ReportFault>
     requires { O.failed out.old ≡ false }
-    ensures { PutsText (steps_text system.now schedule.now endings.now)
+    ensures { PutsText (steps_text system.now schedule.now endings.now verdicts.now)
         (O.bytes out.old) (O.bytes out.new) (O.failed out.new) result }
 {
     let mut course = Course::start(alloc, system)?;
     let room = room(alloc)?;
     let mut paper = Paper::new(out, room);
-    let walked = put_all(alloc, &mut paper, system, &mut course, schedule, endings);
+    let walked = put_all(
+        alloc,
+        &mut paper,
+        system,
+        &mut course,
+        schedule,
+        endings,
+        verdicts,
+    );
     let (out, sent) = paper.finish();
     // No effect at run time. The proof reads what `out` holds from the reference that comes back.
     let _ = &*out;
     outcome_of(walked, sent)
 }
 
-/// Writes the lines of all steps of a system from its start, and the last line.
+/// Writes all lines of a system from its start.
 #[tactic(auto, unfolding(crate::specs::Steps::steps_text))]
 fn put_all<O: Out>(
     alloc: Global,
@@ -61,17 +77,56 @@ fn put_all<O: Out>(
     course: &mut Course,
     schedule: &RawLog<Entry>,
     endings: &[Ending],
+    verdicts: &[Verdict],
 ) -> Result<(), AllocError>
     requires { course.old ≡ start system.now }
     ensures whole { OnOk result
-        (paper.new ≡ and_text paper.old (steps_text system.now schedule.now endings.now)) }
+        (paper.new ≡ and_text paper.old (steps_text system.now schedule.now endings.now verdicts.now)) }
     ensures beginning { OnErr result
-        (HasBeginning (steps_text system.now schedule.now endings.now) paper.old paper.new) }
+        (HasBeginning (steps_text system.now schedule.now endings.now verdicts.now) paper.old paper.new) }
     ensures part { Continues paper.old paper.new }
 {
-    put_steps(alloc, paper, system.names(), course, schedule)?;
-    put_last(paper, ran_out(endings));
+    let (names, invariants) = (system.names(), system.invariants());
+    put_lines(
+        alloc, paper, names, invariants, course, schedule, endings, verdicts,
+    )
+}
+
+/// Writes all lines from the start on, at which the course is.
+fn put_lines<O: Out>(
+    alloc: Global,
+    paper: &mut Paper<'_, O>,
+    names: &Names,
+    invariants: &[CheckedInvariant],
+    course: &mut Course,
+    schedule: &RawLog<Entry>,
+    endings: &[Ending],
+    verdicts: &[Verdict],
+) -> Result<(), AllocError>
+    ensures whole { OnOk result (paper.new ≡ and_text paper.old
+        (lines_from names.now invariants.now schedule.now endings.now verdicts.now course.old)) }
+    ensures beginning { OnErr result (HasBeginning
+        (lines_from names.now invariants.now schedule.now endings.now verdicts.now course.old) paper.old paper.new) }
+    ensures part { Continues paper.old paper.new }
+{
+    put_start(paper, names, course);
+    put_steps(alloc, paper, names, course, schedule)?;
+    put_closing(paper, invariants, endings, verdicts);
     Ok(())
+}
+
+/// Writes what stands behind the steps.
+fn put_closing<O: Out>(
+    paper: &mut Paper<'_, O>,
+    invariants: &[CheckedInvariant],
+    endings: &[Ending],
+    verdicts: &[Verdict],
+)
+    ensures { paper.new ≡ and_text paper.old (closing invariants.now endings.now verdicts.now) }
+{
+    put_endings(paper, endings);
+    put_verdicts(paper, invariants, verdicts);
+    put_last(paper, ran_out(endings));
 }
 
 /// Writes the last line, if memory ran out.

@@ -4,7 +4,7 @@ use Rattle.std.specs.List.{AllByRecursion}
 use Rattle.ioa_actions.specs.ActionParts.{node_of}
 use Rattle.ioa_actions.specs.declared.component.Component.TheVariants.{Node}
 use Rattle.ioa_actions.specs.declared.fault.StepFault.{StepFault}
-use Rattle.ioa_actions.specs.declared.fault.StepFault.TheVariants.{NotEnabled}
+use Rattle.ioa_actions.specs.declared.fault.StepFault.TheVariants.{NotEnabled, NotMine}
 use Rattle.ioa_commits.specs.Books.{states_after}
 use Rattle.ioa_compose.specs.Composition.{find_conf, joint_answer}
 use Rattle.ioa_compose.specs.Executions.{replay}
@@ -14,6 +14,7 @@ use Rattle.ioa_compose.specs.declared.configuration.Conf.{Conf}
 use Rattle.ioa_system.specs.Systems.{SystemParts}
 use Rattle.ioa_transitions.specs.Entries.{PlainEntry}
 use Rattle.ioa_reasons.specs.Faulted.{IsFaulted}
+use Rattle.ioa_reasons.specs.OtherConsts.{IsOtherConst}
 use Rattle.ioa_reasons.specs.Reasons.{IsReason, queue_among}
 use Rattle.ioa_reasons.specs.Tests.{IsNodeReason}
 use Rattle.ioa_reasons.specs.Unfit.{IsUnfit}
@@ -59,13 +60,16 @@ pub record HearsSteps {S : Type 0} (hears : PlainEvent → S → S → Type 0) (
 
 -- what a refusal says of an entry from these configurations, if its joint step has this fault: that its action is not
 -- enabled, for a reason that is true of its queue and of its node; or a part at which its step stops; or an argument
--- that is not of its sort; or the fault alone
+-- that is not of its sort; or that its node has no such action, and an argument that is another value than its `const`;
+-- or the fault alone
 abbrev pub IsToldOf : List Conf → PlainEntry → StepFault → PlainRefusal → Type 0
 IsToldOf cs e f (refusal.missed r) =
     (f ≡ NotEnabled) × IsReason (queue_among (participants_of e.action) cs) e.action r
     × IsNodeReason (find_conf (Node (node_of e.action)) cs) e.action r
 IsToldOf cs e f (refusal.faulted place stop) = IsFaulted (find_conf (Node (node_of e.action)) cs) e.action place stop
 IsToldOf cs e f (refusal.unfit w v) = IsUnfit (find_conf (Node (node_of e.action)) cs) e.action w v
+IsToldOf cs e f (refusal.other_const o) =
+    (f ≡ NotMine) × IsOtherConst (find_conf (Node (node_of e.action)) cs) e.action o
 IsToldOf cs e f (refusal.plain g) = g ≡ f
 
 -- an entry is no step from these configurations, since its joint step has a fault, of which a refusal says more

@@ -23,6 +23,7 @@ mod visits;
 pub use event::Event;
 pub use fault::TellFault;
 pub use refusal::{Refusal, TellsRefusal};
+pub use refused::tell_refused;
 pub use schedules::tell_schedule;
 pub use telling::tell;
 pub use tells::Tells;

@@ -3,7 +3,7 @@
 use crate::fault::TellFault;
 use crate::tells::Tells;
 use ioa_actions::StepFault;
-use ioa_reasons::{Fault, Place, Reason};
+use ioa_reasons::{Fault, OtherConst, Place, Reason};
 use ioa_terms::{Value, Word};
 use ioa_transitions::Entry;
 use std::alloc::Global;
@@ -17,6 +17,8 @@ pub enum Refusal<'a> {
     Faulted(Place<'a>, Fault<'a>),
     /// This argument is not of the sort of the parameter of this name.
     Unfit(&'a Word, &'a Value),
+    /// Its node has no such action: this argument is another value than the `const` of its parameter.
+    OtherConst(&'a OtherConst),
     /// Its step has this fault, of which no more is told.
     Plain(StepFault),
 }

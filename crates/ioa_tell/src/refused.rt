@@ -19,21 +19,26 @@ use ioa_actions::StepFault;
 use ioa_compose::Conf;
 use ioa_course::Course;
 use ioa_reasons::{
-    Falsified, Place, Reason, find_falsified_in, find_faulted_in, find_unfit_in, reason_with,
+    Falsified, Place, Reason, find_falsified_in, find_faulted_in, find_other_const_in,
+    find_unfit_in, reason_with,
 };
 use ioa_transitions::Entry;
 use std::alloc::Global;
 
-/// Tells the entry that is no step from where a course stands, behind so many that are, with its reason. `Differs` (51)
-/// if it is a step.
-pub(crate) fn tell_refused<T: TellsRefusal>(
+/// Tells the entry that is no step from where a course stands, behind so many that are, with the reason for which it is
+/// none, and nothing else. So whoever shows the steps before it in another way can tell it on an output of its own.
+///
+/// `Differs` (51) if it is a step: the course then stands behind it, and nothing was told. `Memory` (3) if memory runs
+/// out. A fault of who is told ends it too.
+pub fn tell_refused<T: TellsRefusal>(
     alloc: Global,
     course: &mut Course,
     number: usize,
     entry: &Entry,
     out: &mut T,
 ) -> Result<(), TellFault>
-    ensures { OnOk result (HearsRefused T.refuses course.old number entry.now out.old out.new) }
+    ensures told { OnOk result (HearsRefused T.refuses course.old number entry.now out.old out.new) }
+    ensures kept { OnOk result (course.new ≡ course.old) }
 {
     let fault = fault_of(alloc, course, entry)?;
     tell_fault(alloc, course, number, entry, fault, out)
@@ -68,6 +73,7 @@ fn tell_fault<T: TellsRefusal>(
         StepFault::Undefined | StepFault::Range => {
             tell_without_value(alloc, course, number, entry, fault, out)
         }
+        StepFault::NotMine => tell_not_mine(alloc, course, number, entry, out),
         _ => tell_plain(alloc, course, number, entry, fault, out),
     }
 }
@@ -264,6 +270,53 @@ fn may_be_elsewhere(entry: &Entry, place: Place<'_>) -> bool {
     match place {
         Place::Condition | Place::Guard => false,
         Place::Effect(_) => !entry.chosen().is_empty(),
+    }
+}
+
+/// Tells an entry whose node has no such action.
+fn tell_not_mine<T: TellsRefusal>(
+    alloc: Global,
+    course: &Course,
+    number: usize,
+    entry: &Entry,
+    out: &mut T,
+) -> Result<(), TellFault>
+    requires { joint_answer entry.now course.now ≡ Err StepFault.NotMine }
+    ensures { OnOk result (HearsRefused T.refuses course.now number entry.now out.old out.new) }
+{
+    match node_at(course, entry) {
+        None => tell_plain(alloc, course, number, entry, StepFault::NotMine, out),
+        Some(node) => tell_other_const(alloc, course, number, entry, node, out),
+    }
+}
+
+/// The same of a node with this configuration: by an argument that is another value than its `const`, if there is one.
+fn tell_other_const<T: TellsRefusal>(
+    alloc: Global,
+    course: &Course,
+    number: usize,
+    entry: &Entry,
+    node: &Conf,
+    out: &mut T,
+) -> Result<(), TellFault>
+    requires fault { joint_answer entry.now course.now ≡ Err StepFault.NotMine }
+    requires node { find_conf (component.Node (node_of entry.now.action)) course.now ≡ Some node.now }
+    ensures { OnOk result (HearsRefused T.refuses course.now number entry.now out.old out.new) }
+{
+    match find_other_const_in(alloc, node, entry.action())? {
+        None => tell_plain(alloc, course, number, entry, StepFault::NotMine, out),
+        Some(found) => {
+            let refusal = Refusal::OtherConst(&found);
+            tell_with(
+                alloc,
+                course,
+                number,
+                entry,
+                StepFault::NotMine,
+                refusal,
+                out,
+            )
+        }
     }
 }
 

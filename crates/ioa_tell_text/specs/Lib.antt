@@ -7,3 +7,4 @@ pub mod Stops
 pub mod Teller
 pub mod Terms
 pub mod Tests
+pub mod Verdicts

@@ -4,6 +4,8 @@ use Rattle.std.specs.Fmt.{decimal, signed_decimal}
 use Rattle.ioa_actions.specs.ActionText.{action_text, entry_text}
 use Rattle.ioa_actions.specs.declared.action.Action.{Action}
 use Rattle.ioa_actions.specs.declared.action.Action.TheVariants.{Send, Receive, Local, Stimulus}
+use Rattle.ioa_actions.specs.declared.component.Component.{Component}
+use Rattle.ioa_channels.specs.declared.queue.Item.{Item}
 use Rattle.ioa_compose.specs.declared.configuration.Conf.{Conf}
 use Rattle.ioa_monitor.specs.Reports.{item_text}
 use Rattle.ioa_transitions.specs.Entries.{PlainEntry}
@@ -24,10 +26,14 @@ taken_line names k e before after queue =
     decimal k ++ (codes " " ++ (entry_text names e.action e.chosen
     ++ (changes_text names before after queue ++ codes "\n")))
 
+-- which item is the first of a queue
+abbrev pub first_text : List (List ℕ) → Component → Item → List ℕ
+first_text names k x = codes "first in " ++ (component_text k ++ (codes " is " ++ item_text names x))
+
 -- why an action was not enabled
 abbrev pub why_text : List (List ℕ) → Why → List ℕ
 why_text names (why.Empty k) = component_text k ++ codes " is empty"
-why_text names (why.First k x) = codes "first in " ++ (component_text k ++ (codes " is " ++ item_text names x))
+why_text names (why.First k x) = first_text names k x
 why_text names (why.Absent k) = component_text k ++ codes " has no such message"
 why_text names why.Node = codes "not enabled: its where or its guard is false"
 why_text names (why.False text) = text

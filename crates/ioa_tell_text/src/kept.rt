@@ -6,9 +6,16 @@ ghost use Rattle.ioa_terms.specs.Bindings.{same_word};
 use std::marker::Model;
 
 /// A text that is kept. A contract sees its bytes.
-#[derive(Drop)]
-pub(crate) struct KeptText {
+#[derive(Debug)]
+pub struct KeptText {
     text: String,
+}
+
+/// By hand, so that crates above do not prove again how the text is let go (DECISIONS).
+impl Drop for KeptText {
+    fn drop(self) {
+        let KeptText { text: _ } = self;
+    }
 }
 
 impl Model for KeptText {
@@ -28,7 +35,7 @@ impl KeptText {
     }
 
     /// The text.
-    pub(crate) fn as_str(&self) -> &str
+    pub fn as_str(&self) -> &str
         ensures { result.now ≡ self.now }
     {
         self.text.as_str()

@@ -7,7 +7,7 @@ ghost use Rattle.ioa_actions.specs.ActionText.{action_text};
 ghost use Rattle.ioa_monitor.specs.Reports.{item_text};
 ghost use Rattle.ioa_paper.specs.Papers.{and_text};
 ghost use Rattle.ioa_tell_text.specs.Changes.{component_text};
-ghost use Rattle.ioa_tell_text.specs.Lines.{at_text, fault_line, numbered_text, passing_text, taken_line};
+ghost use Rattle.ioa_tell_text.specs.Lines.{at_text, fault_line, first_text, numbered_text, passing_text, taken_line};
 ghost use Rattle.ioa_tell_text.specs.Lines.{times_text, waiting_text, why_text};
 
 use crate::changes::{put_changes, put_component, put_word};
@@ -132,7 +132,7 @@ fn put_at<O: Out>(paper: &mut Paper<'_, O>, action: &Action)
 }
 
 /// Writes why an action was not enabled.
-pub(crate) fn put_why<O: Out>(paper: &mut Paper<'_, O>, names: &Names, why: &Why)
+fn put_why<O: Out>(paper: &mut Paper<'_, O>, names: &Names, why: &Why)
     ensures { paper.new ≡ and_text paper.old (why_text names.now why.now) }
 {
     match why {
@@ -154,8 +154,7 @@ fn put_empty<O: Out>(paper: &mut Paper<'_, O>, queue: Component)
 
 /// Writes which item is the first of a queue.
 fn put_first<O: Out>(paper: &mut Paper<'_, O>, names: &Names, queue: Component, item: &Item)
-    ensures { paper.new ≡ and_text paper.old
-        (codes "first in " ++ (component_text queue ++ (codes " is " ++ item_text names.now item.now))) }
+    ensures { paper.new ≡ and_text paper.old (first_text names.now queue item.now) }
 {
     paper.put("first in ");
     put_component(paper, queue);

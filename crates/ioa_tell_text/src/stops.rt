@@ -50,7 +50,7 @@ pub(crate) fn stuck_text(
 }
 
 /// Writes at which part a step stops.
-fn push_stop(
+pub(crate) fn push_stop(
     alloc: Global,
     out: &mut String,
     names: &Names,
@@ -170,11 +170,23 @@ pub(crate) fn unfit_text(
     ensures { IfOk result (λ t. t ≡ spec.unfit_text names.now name.now value.now) }
 {
     let mut out = String::new(alloc);
+    push_unfit(&mut out, names, name, value)?;
+    Ok(KeptText::new(out))
+}
+
+/// Writes which argument is not of the sort of its parameter.
+pub(crate) fn push_unfit(
+    out: &mut String,
+    names: &Names,
+    name: &Word,
+    value: &Value,
+) -> Result<(), AllocError>
+    ensures { OnOk result (Writes out.old out.new (spec.unfit_text names.now name.now value.now)) }
+{
     out.push_str("argument ")?;
     out.push_str(name.as_str())?;
     out.push_str(" = ")?;
-    push_sort(&mut out, names, value)?;
-    Ok(KeptText::new(out))
+    push_sort(out, names, value)
 }
 
 /// Writes a statement without the bodies that it has; of a choice the term or the condition that stops.

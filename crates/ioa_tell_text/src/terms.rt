@@ -1,7 +1,7 @@
 //! Terms as text.
 
 ghost use Rattle.std.specs.Prelude.{◌≡◌, ◌++◌, OnOk, codes, map, true};
-ghost use Rattle.std.specs.Fmt.{signed_decimal};
+ghost use Rattle.std.specs.Fmt.{decimal, signed_decimal};
 ghost use Rattle.ioa_values.specs.Outcome.{Writes};
 ghost use Rattle.ioa_term_reader.specs.Levels as levels;
 ghost use Rattle.ioa_terms.specs.PlainTerm.{terms_of};
@@ -99,6 +99,22 @@ fn push_number(out: &mut String, number: i64) -> Result<(), AllocError>
     ensures { OnOk result (Writes out.old out.new (signed_decimal number)) }
 {
     write!(out, "{number}")?;
+    Ok(())
+}
+
+/// Writes a word and a number.
+pub(crate) fn push_word(out: &mut String, word: &str, number: i64) -> Result<(), AllocError>
+    ensures { OnOk result (Writes out.old out.new (word.now ++ signed_decimal number)) }
+{
+    out.push_str(word)?;
+    push_number(out, number)
+}
+
+/// Writes how many there are.
+pub(crate) fn push_count(out: &mut String, count: usize) -> Result<(), AllocError>
+    ensures { OnOk result (Writes out.old out.new (decimal count)) }
+{
+    write!(out, "{count}")?;
     Ok(())
 }
 

@@ -27,11 +27,26 @@ pub(crate) fn false_text(
         (λ t. t ≡ spec.false_text names.now test (term_of part.now) (map named_value values.now)) }
 {
     let mut out = String::new(alloc);
-    out.push_str(test_word(test))?;
-    push_term(&mut out, part)?;
-    out.push_str(" is false")?;
-    push_values(alloc, &mut out, names, values)?;
+    push_false(alloc, &mut out, names, test, part, values)?;
     Ok(KeptText::new(out))
+}
+
+/// Writes which part of a test is false, and the values of its names.
+pub(crate) fn push_false(
+    alloc: Global,
+    out: &mut String,
+    names: &Names,
+    test: Test,
+    part: &Checked,
+    values: &[NamedValue<'_>],
+) -> Result<(), AllocError>
+    ensures { OnOk result (Writes out.old out.new
+        (spec.false_text names.now test (term_of part.now) (map named_value values.now))) }
+{
+    out.push_str(test_word(test))?;
+    push_term(out, part)?;
+    out.push_str(" is false")?;
+    push_values(alloc, out, names, values)
 }
 
 /// The word of a test, and a space.

@@ -9,23 +9,27 @@ ghost use Rattle.ioa_reasons.specs.PlainReasons.{fault_of, place_of, reason_of, 
 ghost use Rattle.ioa_tell_text.specs.Kept.{once, why_of};
 ghost use Rattle.ioa_tell_text.specs.Lines.{fault_line, taken_line, waiting_text};
 ghost use Rattle.ioa_tell_text.specs.Stops.{stop_text, stuck_line, stuck_text, unfit_text};
-ghost use Rattle.ioa_tell_text.specs.Teller.{and_written, flushed, waits, waits_behind, with_waiting};
+ghost use Rattle.ioa_tell_text.specs.Teller.{and_written, flushed, marked, teller_begun, teller_ended, waits};
+ghost use Rattle.ioa_tell_text.specs.Teller.{waits_behind, with_waiting};
 
 use crate::keeping::taken_out;
 use crate::kept::KeptText;
 use crate::lines::{put_fault, put_taken, put_waiting};
 use crate::refusals::put_refused;
 use crate::stops::{put_stuck, stop_text, stuck_text, unfit_text};
+use crate::verdicts::{Moment, put_marks};
 use crate::waiting::{Passing, Waiting, Why, kept};
 use ioa_actions::Action;
 use ioa_compose::Conf;
-use ioa_monitor::put_ending;
+use ioa_monitor::{put_ending, put_verdicts};
 use ioa_paper::Paper;
 use ioa_reasons::{Fault, Place, Reason, StatementPlace};
 use ioa_streams::{Out, OutFailed};
+use ioa_system::CheckedInvariant;
 use ioa_tell::{Event, Refusal, TellFault, Tells, TellsRefusal};
 use ioa_transitions::Entry;
 use ioa_values::{Names, Value, Word};
+use ioa_verdicts::Verdict;
 use std::alloc::{AllocError, Global};
 use std::marker::Model;
 
@@ -33,28 +37,49 @@ use std::marker::Model;
 /// `  missed action@i: why   (n times)` for n misses one after another, `  fault action@i: why` for a fault of a step,
 /// `  fault @i: why` for one of a block, `  idle @i   (n times)` for idle turns, and `ending i e` for the endings. A
 /// miss or an idle turn is written once its node does something else, just before that. Of a schedule that is given,
-/// `not a step: k action: why` is the line of the entry that is no step, behind k that are.
+/// `not a step: k action: why` is the line of the entry that is no step, behind k that are. Behind the action after
+/// which an invariant is first not true stands `  invariant x fails here`, or `undefined`, or `range`; who calls says
+/// what the verdicts are, and when what is told begins and ends.
 pub struct TextTeller<'a, O: Out> {
     paper: Paper<'a, O>,
     names: &'a Names,
+    invariants: &'a [CheckedInvariant],
+    verdicts: &'a [Verdict],
     waiting: Vec<Waiting>,
 }
 
 impl<'a, O: Out> Model for TextTeller<'a, O> {
     ghost use Rattle.std.specs.Coded.{codes};
+    ghost use Rattle.ioa_system.specs.Invariants.{invariant_code};
     ghost use Rattle.ioa_values.specs.contracts.value.Value as value;
+    ghost use Rattle.ioa_verdicts.specs.contracts.verdict.Verdict as verdict;
     ghost use Rattle.ioa_tell_text.specs.Teller.{PlainTeller};
 
     ghost Value = { PlainTeller };
 
-    ghost coded = { Prim.hlevel (codes, value.the_row.coded) };
+    ghost coded = { Prim.hlevel (codes, value.the_row.coded, invariant_code, verdict.the_row.coded) };
 
-    ghost view = { λ t. record { paper = t.paper; names = t.names.now; waiting = t.waiting.items } };
+    ghost view = { λ t. record {
+      paper = t.paper;
+      names = t.names.now;
+      invariants = t.invariants.now;
+      verdicts = t.verdicts.now;
+      waiting = t.waiting.items;
+    } };
 }
 
 impl<'a, O: Out> TextTeller<'a, O> {
-    /// Who writes on this output, by these names of constants, and holds back as many bytes as there is room for.
-    pub fn new(alloc: Global, names: &'a Names, out: &'a mut O, room: Vec<u8>) -> Self
+    /// Who writes on this output, by these names of constants, and holds back as many bytes as there is room for. The
+    /// verdicts are those on the invariants, in their order, along the schedule that is told. With none of both nothing
+    /// is told of invariants.
+    pub fn new(
+        alloc: Global,
+        names: &'a Names,
+        invariants: &'a [CheckedInvariant],
+        verdicts: &'a [Verdict],
+        out: &'a mut O,
+        room: Vec<u8>,
+    ) -> Self
         requires well { O.failed out.old ≡ false }
         requires empty { room.items ≡ [] }
         requires room { 0 < vec_capacity room }
@@ -62,13 +87,32 @@ impl<'a, O: Out> TextTeller<'a, O> {
         ensures text { result.paper.text ≡ [] }
         ensures output { result.paper.output ≡ out.entry.ghost_name }
         ensures names { result.names ≡ names.now }
+        ensures invariants { result.invariants ≡ invariants.now }
+        ensures verdicts { result.verdicts ≡ verdicts.now }
         ensures waiting { result.waiting ≡ [] }
     {
         TextTeller {
             paper: Paper::new(out, room),
             names,
+            invariants,
+            verdicts,
             waiting: Vec::new(alloc),
         }
+    }
+
+    /// Writes which invariants are not true at the start: `  invariant x fails at the start`, or `undefined`, or
+    /// `range`. It comes before all events.
+    pub fn begin(&mut self)
+        ensures { self.new ≡ teller_begun self.old }
+    {
+        self.mark(Moment::Start);
+    }
+
+    /// Writes the verdicts, as a report has them. It comes behind all that is told.
+    pub fn end(&mut self)
+        ensures { self.new ≡ teller_ended self.old }
+    {
+        put_verdicts(&mut self.paper, self.invariants, self.verdicts);
     }
 
     /// Sends what is held back. The output comes back, and whether all of the text went out. What waits is written
@@ -81,6 +125,8 @@ impl<'a, O: Out> TextTeller<'a, O> {
         let TextTeller {
             paper,
             names: _,
+            invariants: _,
+            verdicts: _,
             waiting,
         } = self;
         drop(waiting);
@@ -104,8 +150,31 @@ impl<'a, O: Out> TextTeller<'a, O> {
         put_waiting(&mut self.paper, self.names, &waiting);
     }
 
-    /// Writes an action that was taken.
+    /// Writes which invariants are first not true at a moment.
+    fn mark(&mut self, moment: Moment)
+        ensures { self.new ≡ marked moment self.old }
+    {
+        put_marks(&mut self.paper, moment, self.invariants, self.verdicts);
+    }
+
+    /// Writes an action that was taken, and which invariants are first not true behind it.
     fn taken(
+        &mut self,
+        number: usize,
+        entry: &Entry,
+        before: &Conf,
+        after: &Conf,
+        queue: Option<&Conf>,
+    )
+        ensures { self.new ≡ marked (Moment.Behind number) (and_written (flushed (node_of entry.now.action) self.old)
+            (taken_line self.old.names number entry.now before.now after.now (option_copied queue.entry))) }
+    {
+        self.write_taken(number, entry, before, after, queue);
+        self.mark(Moment::Behind(number));
+    }
+
+    /// Writes an action that was taken.
+    fn write_taken(
         &mut self,
         number: usize,
         entry: &Entry,

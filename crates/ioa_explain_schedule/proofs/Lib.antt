@@ -1,0 +1,2 @@
+-- the lemmas of this crate
+pub mod Reasons
