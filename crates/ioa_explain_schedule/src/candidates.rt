@@ -34,8 +34,13 @@ const MOST_ASKED: usize = 1_000;
 /// So many names of a kind are told at most.
 const MOST_TOLD: usize = 8;
 
+/// What is said if nothing could stand there: the reader goes past a collection, and past a constant within a value,
+/// before it refuses it.
+const REFUSED_VALUE: &str =
+    "The value in front of it is of another sort, or its members or keys do not ascend.";
+
 /// What could stand in a line behind its beginning in place of what is found there, or for what this is refused if such
-/// a token could stand there; empty if neither is known.
+/// a token could stand there, or that the value in front of it is refused; empty if none of this is known.
 pub(crate) fn candidates(
     alloc: Global,
     system: &System,
@@ -53,7 +58,15 @@ pub(crate) fn candidates(
             push_item(&mut line, "the end of the line")?;
         }
     }
+    if line.is_empty() && asks_all(system) {
+        line.push_str(REFUSED_VALUE)?;
+    }
     Ok(line)
+}
+
+/// Whether each constant of a system is asked for.
+fn asks_all(system: &System) -> bool {
+    system.names().as_slice().len() <= MOST_ASKED
 }
 
 /// What is said of a token that is found where such a token could stand: a number and a name are then refused for the
